@@ -1,0 +1,5 @@
+pub mod Kinds
+pub mod Refusals
+pub mod Words
+pub mod Steps
+pub mod Worked
