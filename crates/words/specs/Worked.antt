@@ -12,9 +12,9 @@ use Prim.Native.Nat.{ℕ}
 abbrev pub Spells : ℕ → Plain → Type 0
 Spells n w = (unpacked n ≡ Ok w) × (code w ≡ n)
 
--- a step f takes the word of the bits n to the word of the bits m
-abbrev pub Takes : (Plain → Plain) → ℕ → ℕ → Type 0
-Takes f n m = (w : Plain) × (unpacked n ≡ Ok w) × (code (f w) ≡ m)
+-- the bits n spell w, and the step f takes w to the word of the bits m
+abbrev pub Takes : (Plain → Plain) → ℕ → Plain → ℕ → Type 0
+Takes f n w m = (unpacked n ≡ Ok w) × (code (f w) ≡ m)
 
 abbrev pub Refused : ℕ → Type 0
 Refused n = unpacked n ≡ Err Unlawful
@@ -27,7 +27,7 @@ Cases =
     × Refused 0x00010000
     × Refused 0x80000000
     × Refused 0xC0000000
-    × Takes (opening false) 0x0000FFFF 0x40000000
-    × Takes settling 0x40000000 0x80010000
-    × Takes lower 0x80010005 0x00000005
-    × Takes lower 0x80020005 0x80010005
+    × Takes (opening false) 0x0000FFFF (plain Empty 0 65535) 0x40000000
+    × Takes settling 0x40000000 (plain Half 0 0) 0x80010000
+    × Takes lower 0x80010005 (plain Counted 1 5) 0x00000005
+    × Takes lower 0x80020005 (plain Counted 2 5) 0x80010005

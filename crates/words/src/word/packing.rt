@@ -6,9 +6,10 @@ use crate::kind::Kind;
 use crate::word::Word;
 
 impl Word {
-    // Its 32 bits: kind, count, version, from the top.
+    // Its 32 bits: kind, count, version, from the top. They are unpacked to the word itself.
     pub fn pack(&self) -> u32
-        ensures { λ r. ⌜ r ≡ code (shown (now (self .entry))) ⌝ }
+        ensures value { λ r. ⌜ r ≡ code (shown (now (self .entry))) ⌝ }
+        ensures again { λ r. ⌜ unpacked r ≡ Ok (shown (now (self .entry))) ⌝ }
     {
         let kind = self.kind.bits();
         (kind << 30) | ((self.count as u32) << 16) | self.version as u32
@@ -28,11 +29,4 @@ impl Word {
             _ => Err(WordFault::Unlawful),
         }
     }
-}
-
-// What is packed is unpacked to itself again.
-pub fn repacked(word: &Word) -> Result<Word, WordFault>
-    ensures { λ r. ⌜ seen r ≡ Ok (shown (now (word .entry))) ⌝ }
-{
-    Word::unpack(word.pack())
 }

@@ -1,0 +1,4 @@
+pub mod Refusals
+pub mod Counting
+pub mod Meaning
+pub mod Calls
