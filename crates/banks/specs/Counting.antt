@@ -12,6 +12,6 @@ put f i x j = cond (eqb i j) x (f j)
 unfoldable pub one : ℕ → ℕ → ℕ
 one i j = cond (eqb i j) 1 0
 
-abbrev pub sum : (ℕ → ℕ) → ℕ → ℕ
+unfoldable pub sum : (ℕ → ℕ) → ℕ → ℕ
 sum f zero = 0
 sum f (suc n) = f n + sum f n

@@ -1,7 +1,11 @@
 // Tally banks: what a bank means, and the banks that show that meaning.
 pub mod answer;
 pub mod bank;
+mod errand;
 pub mod fault;
+pub mod flat;
+mod node;
+mod table;
 
 pub use answer::Coin;
 pub use answer::CoinDebug;
@@ -24,3 +28,4 @@ pub use fault::BankFault;
 pub use fault::BankFaultDebug;
 pub use fault::BankFaultEq;
 pub use fault::BankFaultPartialEq;
+pub use flat::Flat;
