@@ -108,3 +108,7 @@ sum-more f n = rw (add-one n) (omega arith)
 pub sum-zero : (f : ℕ → ℕ) → sum f 0 ≡ 0
 unfolding sum
 sum-zero f = refl
+
+-- what is there, put back
+pub put-back : {A : Type 0} (f : ℕ → A) (i : ℕ) → put f i (f i) ≡ f
+put-back f i = sym (put-by f f i (f i) refl (λ j n. refl))

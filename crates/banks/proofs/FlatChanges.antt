@@ -22,17 +22,17 @@ use Rattle.banks.proofs.FlatKept.{Kept, Change}
 
 -- a new bank
 
-blank-node : (t : ℕ) → at (replicate 256 no-node) t ≡ no-node
+pub blank-node : (t : ℕ) → at (replicate 256 no-node) t ≡ no-node
 blank-node t = elim (cases-lt t 256) [
-    inl l ↦ getD-replicate 256 t no-node no-node l
+  | inl l ↦ getD-replicate 256 t no-node no-node l
   | inr m ↦ getD-past (replicate 256 no-node) t no-node m
-  ]
+]
 
-blank-errand : (a : ℕ) → job (replicate 16 no-errand) a ≡ no-errand
+pub blank-errand : (a : ℕ) → job (replicate 16 no-errand) a ≡ no-errand
 blank-errand a = elim (cases-lt a 16) [
-    inl l ↦ getD-replicate 16 a no-errand no-errand l
+  | inl l ↦ getD-replicate 16 a no-errand no-errand l
   | inr m ↦ getD-past (replicate 16 no-errand) a no-errand m
-  ]
+]
 
 none-blank : (F : Doing → ℕ) → F idle ≡ 0 → sum (λ a. F (doing-of (job (replicate 16 no-errand) a))) 16 ≡ 0
 none-blank F z = sum-none (λ a. F (doing-of (job (replicate 16 no-errand) a))) 16 (λ a l. ap (λ (e : Errand). F (doing-of e)) (blank-errand a) ∙ z)
@@ -45,7 +45,7 @@ kept-new = record {
   rooted = (λ t. rw (blank-node t) refl, λ t. rw (blank-node t) refl);
   closed = (λ t l. rw (blank-node t) refl);
   placed = (λ a h. absurd (true-false (subst (λ (e : Errand). idles (e .phase) ≡ false) (blank-errand a) h)), λ a. rw (blank-errand a) refl);
-  alone = (λ a. rw (blank-errand a) refl, λ a. rw (blank-errand a) refl)
+  alone = (λ a. rw (blank-errand a) refl, λ a. rw (blank-errand a) refl);
 }
 
 -- A call at the tally t, by the agent a
@@ -77,7 +77,7 @@ module _ (ns : List Node) (es : List Errand) (o : ℕ) (k : Kept ns es o) where
     tally = (λ h. let below = k .placed .0 0 h in omega (arith, below));
     node = k .placed .1 0;
     height = k .alone .0 0;
-    calm = k .alone .1 0
+    calm = k .alone .1 0;
   }
     where
       here : at (set ns o opened-root) o ≡ opened-root
@@ -107,7 +107,7 @@ module _ (ns : List Node) (es : List Errand) (o : ℕ) (k : Kept ns es o) where
       tally = (λ h. rw new here);
       node = rw new refl;
       height = rw new refl;
-      calm = rw new refl
+      calm = rw new refl;
     }
       where
         new : job (set es a (comer t t)) a ≡ comer t t
@@ -133,12 +133,14 @@ module _ (ns : List Node) (es : List Errand) (o : ℕ) (k : Kept ns es o) where
       tally = (λ h. rw new here);
       node = rw new refl;
       height = rw new refl;
-      calm = rw new refl
+      calm = rw new refl;
     }
       where
         less : Node
         less = with-out (at ns t .out - 1) (at ns t)
+
         new : job (set es a (goer t t)) a ≡ goer t t
         new = at-set es a (goer t t) no-errand (crew a agent)
+
         node : at (set ns t less) t ≡ less
         node = at-set ns t less no-node (long t here)

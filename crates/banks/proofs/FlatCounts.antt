@@ -32,12 +32,12 @@ comes-counts Lower k t = refl
 
 -- one agent more is looked at
 pub comers-on : (es : List Errand) (t i n m : ℕ) (b : Bool) (d : Errand) → i < length es → b ≡ comes (getD es i d) t
-  → n ≡ sum (λ a. arrives (doing-of (job es a)) t) i → m ≡ n + cond b 1 0 → m ≡ sum (λ a. arrives (doing-of (job es a)) t) (i + 1)
+    → n ≡ sum (λ a. arrives (doing-of (job es a)) t) i → m ≡ n + cond b 1 0 → m ≡ sum (λ a. arrives (doing-of (job es a)) t) (i + 1)
 comers-on es t i n m b d l e old new =
     let more = sum-more (λ a. arrives (doing-of (job es a)) t) i in
     let same : comes (getD es i d) t ≡ comes (job es i) t = ap (λ (x : Errand). comes x t) (getD-default es i d no-errand l) in
     let here : arrives (doing-of (job es i)) t ≡ cond b 1 0 =
-      comes-counts (job es i .phase) (job es i .tally) t ∙ ap (λ (x : Bool). cond x 1 0) (sym (e ∙ same)) in
+    comes-counts (job es i .phase) (job es i .tally) t ∙ ap (λ (x : Bool). cond x 1 0) (sym (e ∙ same)) in
     omega (arith, more, here, old, new)
 
 one-le : (i j : ℕ) → one i j ≤ 1

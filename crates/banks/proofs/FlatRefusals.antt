@@ -17,7 +17,7 @@ use Rattle.banks.specs.FlatTables.{free, shut, out-at}
 use Rattle.banks.specs.Tables.{at, job}
 
 free-by : (high rests : Bool) (u : Unit {0}) → cond {A = Result (Unit {0}) BankFault} high (Err fault.NoAgent) (cond rests (Ok tt) (Err fault.HasErrand)) ≡ Ok u
-  → (high ≡ false) × (rests ≡ true)
+    → (high ≡ false) × (rests ≡ true)
 free-by true rests u e = let z : _≡_ {A = ℕ} 0 1 = cc in absurd (omega arith)
 free-by false true u e = (refl, refl)
 free-by false false u e = let z : _≡_ {A = ℕ} 0 1 = cc in absurd (omega arith)

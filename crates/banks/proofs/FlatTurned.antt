@@ -58,21 +58,21 @@ module _ (ns : List Node) (es : List Errand) (o : ℕ) (k : Kept ns es o) (a : �
 
   some-count : doing-of e ≡ departing (e .tally) → 1 ≤ at ns x .word .count
   some-count d =
-    let here = departs-here d in
-    let part = part-le (λ b. departs (doing-of (job es b)) x) a 16 agent in
-    let sum = k .added x in
-    omega (arith, here, part, sum)
+      let here = departs-here d in
+      let part = part-le (λ b. departs (doing-of (job es b)) x) a 16 agent in
+      let sum = k .added x in
+      omega (arith, here, part, sum)
 
   few-count : at ns x .word .count < 16383
   few-count =
-    let sum = k .added x in
-    let out = k .few x in
-    let goers = goers-few es x in
-    omega (arith, sum, out, goers)
+      let sum = k .added x in
+      let out = k .few x in
+      let goers = goers-few es x in
+      omega (arith, sum, out, goers)
 
   pub outcome-at : Outcome e (at ns x .word) (turn-at ns e)
   outcome-at =
-    outcome e (at ns x .word) (at ns x .parent) (k .rooted .0 x) (k .alone .0 a) (k .rooted .1 x) busy (k .alone .1 a) some-count few-count
+      outcome e (at ns x .word) (at ns x .parent) (k .rooted .0 x) (k .alone .0 a) (k .rooted .1 x) busy (k .alone .1 a) some-count few-count
 
   pub change-goes : (r : After) → Going-on e (at ns x .word) r → Change ns (nodes-after ns e r) es (set es a (r .errand)) o o x a
   change-goes r g = subst (λ (ms : List Node). Change ns ms es (set es a (r .errand)) o o x a) (sym same) (record {
@@ -93,20 +93,21 @@ module _ (ns : List Node) (es : List Errand) (o : ℕ) (k : Kept ns es o) (a : �
     tally = (λ h. let t = k .placed .0 a busy in rw new (rw (g .tally) t));
     node = rw new (g .node ∙ k .placed .1 a ∙ sym (g .tally));
     height = rw new (g .height);
-    calm = rw new (g .settles)
+    calm = rw new (g .settles);
   })
     where
       new : job (set es a (r .errand)) a ≡ r .errand
       new = at-set es a (r .errand) no-errand crew
+
       same : nodes-after ns e r ≡ ns
       same = ap (λ (s : Said). noted s (wrote (r .write) x ns)) (g .said) ∙ ap (λ (w : Option Word). wrote w x ns) (g .write)
 
   -- an errand that has ended leaves the node n
   ended : (ms : List Node) (f : Errand) → f ≡ no-errand → length ms ≡ length ns → ((u : ℕ) → (x ≡ u → ⊥) → at ms u ≡ at ns u)
-    → (n : Node) → at ms x ≡ n → n .parent ≡ at ns x .parent → half? (n .word .kind) ≡ false
-    → n .word .count + (at ns x .out + departs (doing-of e) x) ≡ at ns x .word .count + n .out
-    → n .out ≤ at ns x .out + arrives (doing-of e) x
-    → Change ns ms es (set es a f) o o x a
+      → (n : Node) → at ms x ≡ n → n .parent ≡ at ns x .parent → half? (n .word .kind) ≡ false
+      → n .word .count + (at ns x .out + departs (doing-of e) x) ≡ at ns x .word .count + n .out
+      → n .out ≤ at ns x .out + arrives (doing-of e) x
+      → Change ns ms es (set es a f) o o x a
   ended ms f done long others n here parent whole adds few = subst (λ (g : Errand). Change ns ms es (set es a g) o o x a) (sym done) (record {
     agent = agent;
     nodes = long ∙ k .sized .0;
@@ -125,7 +126,7 @@ module _ (ns : List Node) (es : List Errand) (o : ℕ) (k : Kept ns es o) (a : �
     tally = (λ h. absurd (true-false (subst (λ (g : Errand). idles (g .phase) ≡ false) new h)));
     node = rw new refl;
     height = rw new refl;
-    calm = rw new refl
+    calm = rw new refl;
   })
     where
       new : job (set es a no-errand) a ≡ no-errand
@@ -143,14 +144,14 @@ module _ (ns : List Node) (es : List Errand) (o : ℕ) (k : Kept ns es o) (a : �
 
   come-nodes : (v : Word) (r : After) → Ending e (at ns x .word) v (Arrived x) r → nodes-after ns e r ≡ set (with-v v) x (come v)
   come-nodes v r n =
-    ap (λ (s : Said). noted s (wrote (r .write) x ns)) (n .said)
-    ∙ ap (λ (w : Option Word). noted (Arrived x) (wrote w x ns)) (n .write)
-    ∙ ap (λ (y : Node). set (with-v v) x (with-out (y .out + 1) y)) (with-here v)
+      ap (λ (s : Said). noted s (wrote (r .write) x ns)) (n .said)
+      ∙ ap (λ (w : Option Word). noted (Arrived x) (wrote w x ns)) (n .write)
+      ∙ ap (λ (y : Node). set (with-v v) x (with-out (y .out + 1) y)) (with-here v)
 
   leave-nodes : (v : Word) (d : Bool) (r : After) → Ending e (at ns x .word) v (Departed d) r → nodes-after ns e r ≡ with-v v
   leave-nodes v d r n =
-    ap (λ (s : Said). noted s (wrote (r .write) x ns)) (n .said)
-    ∙ ap (λ (w : Option Word). noted (Departed d) (wrote w x ns)) (n .write)
+      ap (λ (s : Said). noted s (wrote (r .write) x ns)) (n .said)
+      ∙ ap (λ (w : Option Word). noted (Departed d) (wrote w x ns)) (n .write)
 
   -- the node x after, and the others
   pub come-at : (v : Word) (r : After) → Ending e (at ns x .word) v (Arrived x) r → at (nodes-after ns e r) x ≡ come v
@@ -158,7 +159,7 @@ module _ (ns : List Node) (es : List Errand) (o : ℕ) (k : Kept ns es o) (a : �
 
   pub come-but : (v : Word) (r : After) → Ending e (at ns x .word) v (Arrived x) r → (u : ℕ) → (x ≡ u → ⊥) → at (nodes-after ns e r) u ≡ at ns u
   come-but v r n u m =
-    ap (λ (ms : List Node). at ms u) (come-nodes v r n) ∙ but-set (with-v v) x (come v) no-node u m ∙ but-set ns x (with-word v (at ns x)) no-node u m
+      ap (λ (ms : List Node). at ms u) (come-nodes v r n) ∙ but-set (with-v v) x (come v) no-node u m ∙ but-set ns x (with-word v (at ns x)) no-node u m
 
   pub leave-at : (v : Word) (d : Bool) (r : After) → Ending e (at ns x .word) v (Departed d) r → at (nodes-after ns e r) x ≡ with-word v (at ns x)
   leave-at v d r n = ap (λ (ms : List Node). at ms x) (leave-nodes v d r n) ∙ with-here v
@@ -167,20 +168,20 @@ module _ (ns : List Node) (es : List Errand) (o : ℕ) (k : Kept ns es o) (a : �
   leave-but v d r n u m = ap (λ (ms : List Node). at ms u) (leave-nodes v d r n) ∙ but-set ns x (with-word v (at ns x)) no-node u m
 
   pub change-comes : (v : Word) (r : After) → Ending e (at ns x .word) v (Arrived x) r → doing-of e ≡ arriving (e .tally) → v .count ≡ at ns x .word .count + 1
-    → Change ns (nodes-after ns e r) es (set es a (r .errand)) o o x a
+      → Change ns (nodes-after ns e r) es (set es a (r .errand)) o o x a
   change-comes v r n d count =
-    ended (nodes-after ns e r) (r .errand) (n .errand) (ap length (come-nodes v r n) ∙ simp length-set) (come-but v r n)
-    (come v) (come-at v r n) refl (n .whole)
-    (let none : departs (doing-of e) x ≡ 0 = rw d refl in omega (arith, none, count))
-    (let one = arrives-here d in omega (arith, one))
+      ended (nodes-after ns e r) (r .errand) (n .errand) (ap length (come-nodes v r n) ∙ simp length-set) (come-but v r n)
+      (come v) (come-at v r n) refl (n .whole)
+      (let none : departs (doing-of e) x ≡ 0 = rw d refl in omega (arith, none, count))
+      (let one = arrives-here d in omega (arith, one))
 
   pub change-leaves : (v : Word) (d : Bool) (r : After) → Ending e (at ns x .word) v (Departed d) r → doing-of e ≡ departing (e .tally) → v .count + 1 ≡ at ns x .word .count
-    → Change ns (nodes-after ns e r) es (set es a (r .errand)) o o x a
+      → Change ns (nodes-after ns e r) es (set es a (r .errand)) o o x a
   change-leaves v d r n g count =
-    ended (nodes-after ns e r) (r .errand) (n .errand) (ap length (leave-nodes v d r n) ∙ simp length-set) (leave-but v d r n)
-    (with-word v (at ns x)) (leave-at v d r n) refl (n .whole)
-    (let one = departs-here g in omega (arith, one, count))
-    (omega arith)
+      ended (nodes-after ns e r) (r .errand) (n .errand) (ap length (leave-nodes v d r n) ∙ simp length-set) (leave-but v d r n)
+      (with-word v (at ns x)) (leave-at v d r n) refl (n .whole)
+      (let one = departs-here g in omega (arith, one, count))
+      (omega arith)
 
   pub change-turn : (r : After) → Outcome e (at ns x .word) r → Change ns (nodes-after ns e r) es (set es a (r .errand)) o o x a
   change-turn r (goes-on g) = change-goes r g

@@ -3,6 +3,9 @@ pub mod FlatTurns
 pub mod FlatKept
 pub mod FlatCounts
 pub mod FlatChanges
-pub mod FlatBank
+pub mod FlatFacts
 pub mod FlatRefusals
 pub mod FlatTurned
+pub mod FlatLawful
+pub mod FlatShows
+pub mod FlatTurnShows

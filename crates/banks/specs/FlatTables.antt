@@ -2,6 +2,7 @@
 -- place is 0.
 --     Tables                         the nodes, the errands, how many tallies are open
 --     performed T q                  the answer to the call q, and the tables after it
+--     Did T q r U                    the call q is answered r, and takes the tables T to U
 --     Sized, Added, Few, Rooted, Closed, Placed, Alone     what holds of the tables between calls
 --     meaning T                      what they mean
 use mathlib.Core.Path.{_≡_}
@@ -148,6 +149,10 @@ performed T (turn a) =
     (turned (Ok (heard (turn-at (T .nodes) (job (T .errands) a) .said))), after-turn T a))
 performed T (reading t) =
     (cond (leb (T .open-ones) t) (reads (Err fault.NotOpen)) (reads (Ok (read-by (empty? (at (T .nodes) t .word .kind))))), T)
+
+-- the call q is answered r, and takes the tables T to U
+abbrev pub Did : Tables → Request → Reply → Tables → Type 0
+Did T q r U = _≡_ {A = Reply × Tables} (r, U) (performed T q)
 
 -- Between calls
 

@@ -3,6 +3,7 @@ use crate::errand::Errand;
 use crate::node::Node;
 
 pub mod calls;
+pub mod shown;
 
 // The flat bank: a root alone for each of 256 tallies, and 0 for every place.
 #[derive(Drop)]

@@ -29,3 +29,4 @@ pub use fault::BankFaultDebug;
 pub use fault::BankFaultEq;
 pub use fault::BankFaultPartialEq;
 pub use flat::Flat;
+pub use flat::shown::FlatBank;

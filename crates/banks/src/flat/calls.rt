@@ -2,7 +2,7 @@ ghost use mathlib.Core.Path.{_≡_};
 ghost use Prim.Native.Nat.{_+_, _<_, _≤_};
 ghost use Rattle.std.specs.Vec.{refused};
 ghost use Rattle.banks.specs.Calls.{open-one, arrive, depart, turn, reading, opened as answered, begun, turned, reads};
-ghost use Rattle.banks.specs.FlatTables.{first-tables, performed, free, shut, comers, out-at, heard};
+ghost use Rattle.banks.specs.FlatTables.{first-tables, Did, free, shut, comers, out-at, heard};
 ghost use Rattle.banks.specs.Tables.{at};
 ghost use Rattle.banks.specs.Flat.{tables-of};
 use crate::answer::Coin;
@@ -76,8 +76,8 @@ impl Flat {
         count
     }
 
-    fn open_next(&mut self) -> Result<(u16, u16), BankFault>
-        ensures exact { λ r. ⌜ (answered r, tables-of (now (self .exit))) ≡ performed (tables-of (now (self .entry))) open-one ⌝ }
+    pub(crate) fn open_next(&mut self) -> Result<(u16, u16), BankFault>
+        ensures exact { λ r. ⌜ Did (tables-of (now (self .entry))) open-one (answered r) (tables-of (now (self .exit))) ⌝ }
         ensures same { λ r. ⌜ refused r (λ _. now (self .exit) ≡ now (self .entry)) ⌝ }
     {
         let tally = self.opened;
@@ -94,7 +94,7 @@ impl Flat {
         Ok((tally, 0))
     }
 
-    fn begin_arrival(
+    pub(crate) fn begin_arrival(
         &mut self,
         agent: u16,
         tally: u16,
@@ -102,7 +102,7 @@ impl Flat {
         side: Side,
         coin: Coin,
     ) -> Result<(), BankFault>
-        ensures exact { λ r. ⌜ (begun r, tables-of (now (self .exit))) ≡ performed (tables-of (now (self .entry))) (arrive agent tally place side coin) ⌝ }
+        ensures exact { λ r. ⌜ Did (tables-of (now (self .entry))) (arrive agent tally place side coin) (begun r) (tables-of (now (self .exit))) ⌝ }
         ensures same { λ r. ⌜ refused r (λ _. now (self .exit) ≡ now (self .entry)) ⌝ }
     {
         self.free(agent)?;
@@ -135,8 +135,13 @@ impl Flat {
         if place == 0 { node.out } else { 0 }
     }
 
-    fn begin_departure(&mut self, agent: u16, tally: u16, place: u16) -> Result<(), BankFault>
-        ensures exact { λ r. ⌜ (begun r, tables-of (now (self .exit))) ≡ performed (tables-of (now (self .entry))) (depart agent tally place) ⌝ }
+    pub(crate) fn begin_departure(
+        &mut self,
+        agent: u16,
+        tally: u16,
+        place: u16,
+    ) -> Result<(), BankFault>
+        ensures exact { λ r. ⌜ Did (tables-of (now (self .entry))) (depart agent tally place) (begun r) (tables-of (now (self .exit))) ⌝ }
         ensures same { λ r. ⌜ refused r (λ _. now (self .exit) ≡ now (self .entry)) ⌝ }
     {
         self.free(agent)?;
@@ -151,8 +156,8 @@ impl Flat {
         Ok(())
     }
 
-    fn step(&mut self, agent: u16) -> Result<Turned, BankFault>
-        ensures exact { λ r. ⌜ (turned r, tables-of (now (self .exit))) ≡ performed (tables-of (now (self .entry))) (turn agent) ⌝ }
+    pub(crate) fn step(&mut self, agent: u16) -> Result<Turned, BankFault>
+        ensures exact { λ r. ⌜ Did (tables-of (now (self .entry))) (turn agent) (turned r) (tables-of (now (self .exit))) ⌝ }
         ensures same { λ r. ⌜ refused r (λ _. now (self .exit) ≡ now (self .entry)) ⌝ }
     {
         if agent > 15 {
@@ -169,8 +174,8 @@ impl Flat {
         Ok(heard(after.said))
     }
 
-    fn read(&self, tally: u16) -> Result<Reading, BankFault>
-        ensures { λ r. ⌜ (reads r, tables-of (now (self .entry))) ≡ performed (tables-of (now (self .entry))) (reading tally) ⌝ }
+    pub(crate) fn read(&self, tally: u16) -> Result<Reading, BankFault>
+        ensures { λ r. ⌜ Did (tables-of (now (self .entry))) (reading tally) (reads r) (tables-of (now (self .entry))) ⌝ }
     {
         if tally >= self.opened {
             return Err(BankFault::NotOpen);

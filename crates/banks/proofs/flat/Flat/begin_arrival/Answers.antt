@@ -2,7 +2,7 @@ use mathlib.Core.Path.{sym, subst}
 use native.Mathlib.Omega.{arith}
 use lib.ListN.{set}
 use Rattle.banks.specs.declared.errand.Errand.{Errand}
-use Rattle.banks.proofs.FlatBank.{kept}
+use Rattle.banks.proofs.FlatFacts.{kept}
 use Rattle.banks.proofs.FlatChanges.{change-arrive}
 use Rattle.banks.proofs.FlatKept.{Ghost, ghost, lasts}
 use Rattle.banks.proofs.FlatRefusals.{free-ok, shut-ok}
@@ -17,4 +17,4 @@ ghost-self c =
     let here = shut-ok (b .opened) t (c .shut .result) _ (c .shut .ensures) (c .in-Continue-shut .was tt) in
     subst (λ (e : Errand). Ghost (b .nodes) (set (b .errands) a e) (b .opened)) (sym (c .arriving .ensures))
     (ghost _ _ _ (lasts _ _ _ _ _ _ _ _ (kept b)
-      (change-arrive (b .nodes) (b .errands) (b .opened) (kept b) a t (free .0) (free .1) here (omega (arith, c .crowd .ensures, c .if-crowd-ge2048 .left)))))
+    (change-arrive (b .nodes) (b .errands) (b .opened) (kept b) a t (free .0) (free .1) here (omega (arith, c .crowd .ensures, c .if-crowd-ge2048 .left)))))

@@ -16,13 +16,12 @@ loop-errand-again c =
     let m = c .if-arrives-at .count in
     let b = c .arrives-at .result in
     let step : m ≡ n + cond b 1 0 =
-      elim (c .if-arrives-at .came) [
-        then-arrives-at w ↦ simp (w .if-arrives-at .taken) (w .count-is)
+    elim (c .if-arrives-at .came) [
+      | then-arrives-at w ↦ simp (w .if-arrives-at .taken) (w .count-is)
       | else-arrives-at w ↦ simp (w .if-arrives-at .left) (omega (arith, w .count-is))
-      ] in
-    let low : m ≤ n + 1 = elim (c .if-arrives-at .came) [ then-arrives-at w ↦ omega (arith, w .count-is) | else-arrives-at w ↦ omega (arith, w .count-is) ] in
-    (
+    ] in
+    let low : m ≤ n + 1 = elim (c .if-arrives-at .came) [ then-arrives-at w ↦ omega (arith, w .count-is) | else-arrives-at w ↦ omega (arith, w .count-is) ] in (
       comers-on (c .args .self .now .errands) (c .args .tally) (c .loop-errand .errand-index) n m b (c .errand-item .result)
-      (omega (arith, c .loop-errand-test .taken, c .args .self .now .sized)) (c .arrives-at .ensures) (c .loop-errand .inv .0) step,
-      omega (arith, low, c .loop-errand .inv .1)
+          (omega (arith, c .loop-errand-test .taken, c .args .self .now .sized)) (c .arrives-at .ensures) (c .loop-errand .inv .0) step,
+      omega (arith, low, c .loop-errand .inv .1),
     )

@@ -6,7 +6,7 @@ use Rattle.std.specs.declared.option.Option.the-variants.{None}
 use Rattle.words.specs.declared.word.Word.{Word}
 use Rattle.words.specs.Steps.{settled}
 use Rattle.words.specs.Words.{blank}
-use Rattle.banks.proofs.FlatBank.{kept}
+use Rattle.banks.proofs.FlatFacts.{kept}
 use Rattle.banks.proofs.FlatChanges.{change-open}
 use Rattle.banks.proofs.FlatKept.{Ghost, ghost, lasts}
 use Rattle.banks.proofs.flat.Flat.open_next.Needs as need
