@@ -8,6 +8,7 @@ use native.Mathlib.Omega.{arith}
 use lib.ListN.{length, getD, set, replicate}
 use Rattle.std.proofs.shelf.Tests.{cases-eq}
 use Rattle.banks.specs.declared.errand.Errand.{Errand}
+use Rattle.banks.specs.declared.flat.roots.Roots.{Roots}
 use Rattle.banks.specs.declared.node.Node.{Node}
 use Rattle.banks.specs.Counting.{one, sum}
 use Rattle.banks.specs.Errands.{no-errand, idles}
@@ -25,12 +26,18 @@ pub record Kept (ns : List Node) (es : List Errand) (o : ℕ) : Type 0 where
   pub placed : Placed es o
   pub alone : Alone es
 
+abbrev pub Kept-of : Roots → Type 0
+Kept-of T = Kept (T .nodes) (T .errands) (T .opened)
+
 -- the same as the bank's ghost fields have it
 abbrev pub Ghost : List Node → List Errand → ℕ → Type 0
 Ghost ns es o = Sized ns es o × (Added ns es × (Few ns es × (Rooted ns × (Closed ns o × (Placed es o × (Alone es × Unit {0}))))))
 
-pub ghost : (ns : List Node) (es : List Errand) (o : ℕ) → Kept ns es o → Ghost ns es o
-ghost ns es o k = (k .sized, (k .added, (k .few, (k .rooted, (k .closed, (k .placed, (k .alone, tt)))))))
+-- of the tables U, which are V
+pub ghost : (U V : Roots) → U ≡ V → Kept-of V → Ghost (U .nodes) (U .errands) (U .opened)
+ghost U V e k =
+    subst (λ (W : Roots). Ghost (W .nodes) (W .errands) (W .opened)) (sym e)
+    (k .sized, (k .added, (k .few, (k .rooted, (k .closed, (k .placed, (k .alone, tt)))))))
 
 -- one agent's errand is another: a sum over the agents moves by it
 pub moved : (F : Doing → ℕ) (es fs : List Errand) (a : ℕ) → a < 16 → ((b : ℕ) → (a ≡ b → ⊥) → job fs b ≡ job es b)

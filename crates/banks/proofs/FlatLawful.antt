@@ -19,7 +19,7 @@ use Rattle.banks.specs.declared.errand.Phase.the-variants.{Idle, Read, Raise, 
 use Rattle.banks.specs.declared.node.Node.{Node}
 use Rattle.banks.specs.Counting.{one, sum}
 use Rattle.banks.specs.Errands.{no-errand}
-use Rattle.banks.specs.FlatTables.{tables, meaning, out-at, doing-by, doing-of, departs, goers, empty?, half?, by-word, lone-by, lone-of, first-tables}
+use Rattle.banks.specs.FlatTables.{roots, meaning, out-at, doing-by, doing-of, departs, goers, empty?, half?, by-word, lone-by, lone-of, first-roots}
 use Rattle.banks.specs.Meaning.{Doing, idle, arriving, departing, Lawful, New}
 use Rattle.banks.specs.Tables.{no-node, at, job}
 use Rattle.banks.proofs.Counting.{one-same, one-other, part-le, sum-none, true-false}
@@ -128,8 +128,9 @@ module _ (ns : List Node) (es : List Errand) (o : ℕ) (k : Kept ns es o) where
       let sum = k .added t in
       omega (arith, out, goers, sum))
 
-  pub lawful : Lawful (meaning (tables ns es o))
+  pub lawful : Lawful (meaning (roots ns es o))
   lawful = record {
+    bounded = lit≤ tt;
     few = k .sized .2;
     low = lit≤ tt;
     within = (λ a. lone-le (job es a .phase) _ _);
@@ -143,13 +144,13 @@ module _ (ns : List Node) (es : List Errand) (o : ℕ) (k : Kept ns es o) where
 
 -- a new bank
 
-pub new : New (meaning first-tables)
+pub new : New (meaning first-roots)
 new = record {
   none-open = refl;
   none-out = (λ t p.
-      let most = out-most (first-tables .nodes) t p in
-      let none : at (first-tables .nodes) t .out ≡ 0 = ap (λ (n : Node). n .out) (blank-node t) in
+      let most = out-most (first-roots .nodes) t p in
+      let none : at (first-roots .nodes) t .out ≡ 0 = ap (λ (n : Node). n .out) (blank-node t) in
       omega (arith, most, none));
   all-idle = (λ a. ap doing-of (blank-errand a));
-  lawful = lawful (first-tables .nodes) (first-tables .errands) 0 kept-new;
+  lawful = lawful (first-roots .nodes) (first-roots .errands) 0 kept-new;
 }

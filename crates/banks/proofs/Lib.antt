@@ -3,9 +3,9 @@ pub mod FlatTurns
 pub mod FlatKept
 pub mod FlatCounts
 pub mod FlatChanges
-pub mod FlatFacts
-pub mod FlatRefusals
 pub mod FlatTurned
+pub mod FlatFacts
 pub mod FlatLawful
+pub mod FlatRefusals
 pub mod FlatShows
 pub mod FlatTurnShows

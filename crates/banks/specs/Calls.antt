@@ -57,10 +57,14 @@ abbrev pub DepartOf : {B : Type 0} → (B → Meaning) → B → (a t p : ℕ) �
 DepartOf means b a t p (Ok u) c = Departs (means b) a t p (means c)
 DepartOf means b a t p (Err f) c = (depart-refusal (means b) a t p ≡ Some (number f)) × (c ≡ b)
 
+-- what a turn of a comes to
+abbrev pub Comes-to : Meaning → ℕ → Turned → Meaning → Type 0
+Comes-to m a came.Going w = Goes m a w
+Comes-to m a (came.Arrived q) w = (t : ℕ) × Arrived m a t (q .0) (q .1) (q .2) w
+Comes-to m a (came.Departed drained) w = (t : ℕ) × Departed m a t drained w
+
 abbrev pub TurnOf : {B : Type 0} → (B → Meaning) → B → ℕ → Result Turned BankFault → B → Type 0
-TurnOf means b a (Ok came.Going) c = Goes (means b) a (means c)
-TurnOf means b a (Ok (came.Arrived q)) c = (t : ℕ) × Arrived (means b) a t (q .0) (q .1) (q .2) (means c)
-TurnOf means b a (Ok (came.Departed drained)) c = (t : ℕ) × Departed (means b) a t drained (means c)
+TurnOf means b a (Ok r) c = Comes-to (means b) a r (means c)
 TurnOf means b a (Err f) c = (turn-refusal (means b) a ≡ Some (number f)) × (c ≡ b)
 
 abbrev pub ReadOf : Meaning → ℕ → Result Reading BankFault → Type 0

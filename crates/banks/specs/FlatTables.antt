@@ -1,6 +1,8 @@
 -- The flat bank by its tables: a root alone for each of 256 tallies, whose node is the tally's number and whose one
 -- place is 0.
---     Tables                         the nodes, the errands, how many tallies are open
+--     Roots                          the nodes, the errands, how many tallies are open
+--     may-open T, may-arrive T a t p, ..     whether a call is let through, or its refusal
+--     opens T, sends T a t, takes T a t, turns T a     the tables after a call that is let through
 --     performed T q                  the answer to the call q, and the tables after it
 --     Did T q r U                    the call q is answered r, and takes the tables T to U
 --     Sized, Added, Few, Rooted, Closed, Placed, Alone     what holds of the tables between calls
@@ -31,6 +33,7 @@ use Rattle.banks.specs.declared.errand.Said.{Said}
 use Rattle.banks.specs.declared.errand.Said.the-variants.{Going, Arrived, Departed}
 use Rattle.banks.specs.declared.fault.BankFault.{BankFault}
 use Rattle.banks.specs.declared.fault.BankFault.the-variants as fault
+use Rattle.banks.specs.declared.flat.roots.Roots.{Roots}
 use Rattle.banks.specs.declared.node.Node.{Node}
 use Rattle.banks.specs.Calls.{Request, open-one, arrive, depart, turn, reading, Reply, opened, begun, turned, reads}
 use Rattle.banks.specs.Counting.{one, sum}
@@ -38,16 +41,11 @@ use Rattle.banks.specs.Errands.{no-errand, comer, goer, idles, still}
 use Rattle.banks.specs.Meaning.{Doing, idle, arriving, departing, arrives, Meaning}
 use Rattle.banks.specs.Tables.{no-node, at, job, turn-at, with-out, wrote, noted}
 
-pub record Tables : Type 0 where
-  pub nodes : List Node
-  pub errands : List Errand
-  pub open-ones : ℕ
+abbrev pub roots : List Node → List Errand → ℕ → Roots
+roots ns es o = record { nodes = ns; errands = es; opened = o }
 
-abbrev pub tables : List Node → List Errand → ℕ → Tables
-tables ns es o = record { nodes = ns; errands = es; open-ones = o }
-
-abbrev pub first-tables : Tables
-first-tables = tables (replicate 256 no-node) (replicate 16 no-errand) 0
+abbrev pub first-roots : Roots
+first-roots = roots (replicate 256 no-node) (replicate 16 no-errand) 0
 
 -- What an errand is doing: at a root no node waits, so an agent that looks or lowers departs for itself
 
@@ -78,9 +76,15 @@ goers es t = sum (λ a. departs (doing-of (job es a)) t) 16
 
 -- Calls
 
+abbrev pub may-open : Roots → Result Unit BankFault
+may-open T = cond (ltb (T .opened) 256) (Ok tt) (Err fault.Full)
+
 -- a tally opens counted, count 1, version 0, with one receipt out
 abbrev pub opened-root : Node
 opened-root = record { word = settled blank; parent = None; out = 1 }
+
+abbrev pub opens : Roots → Roots
+opens T = roots (set (T .nodes) (T .opened) opened-root) (T .errands) (T .opened + 1)
 
 -- an agent that may begin an errand, and a tally that is open, or the refusal
 abbrev pub free : List Errand → ℕ → Result Unit BankFault
@@ -98,21 +102,26 @@ abbrev pub and-then : Result Unit BankFault → Result Unit BankFault → Result
 and-then (Ok u) s = s
 and-then (Err f) s = Err f
 
-abbrev pub may-arrive : Tables → (a t p : ℕ) → Result Unit BankFault
+abbrev pub may-arrive : Roots → (a t p : ℕ) → Result Unit BankFault
 may-arrive T a t p =
     and-then (free (T .errands) a)
-    (and-then (shut (T .open-ones) t)
+    (and-then (shut (T .opened) t)
     (cond (eqb p 0) (cond (leb 2048 (at (T .nodes) t .out + comers (T .errands) t)) (Err fault.Crowded) (Ok tt)) (Err fault.NoPlace)))
 
-abbrev pub may-depart : Tables → (a t p : ℕ) → Result Unit BankFault
+abbrev pub sends : Roots → ℕ → ℕ → Roots
+sends T a t = roots (T .nodes) (set (T .errands) a (comer t t)) (T .opened)
+
+abbrev pub may-depart : Roots → (a t p : ℕ) → Result Unit BankFault
 may-depart T a t p =
     and-then (free (T .errands) a)
-    (and-then (shut (T .open-ones) t) (cond (eqb (out-at (T .nodes) t p) 0) (Err fault.NoReceipt) (Ok tt)))
+    (and-then (shut (T .opened) t) (cond (eqb (out-at (T .nodes) t p) 0) (Err fault.NoReceipt) (Ok tt)))
 
--- the tables after, where the call is accepted
-abbrev pub begins : Result Unit BankFault → Tables → Tables → Reply × Tables
-begins (Ok u) T U = (begun (Ok tt), U)
-begins (Err f) T U = (begun (Err f), T)
+-- a receipt leaves the tally
+abbrev pub takes : Roots → ℕ → ℕ → Roots
+takes T a t = roots (set (T .nodes) t (with-out (at (T .nodes) t .out - 1) (at (T .nodes) t))) (set (T .errands) a (goer t t)) (T .opened)
+
+abbrev pub may-turn : Roots → ℕ → Result Unit BankFault
+may-turn T a = cond (ltb 15 a) (Err fault.NoAgent) (cond (idles (job (T .errands) a .phase)) (Err fault.Idle) (Ok tt))
 
 -- what a turn is heard to say: every place is 0
 abbrev pub heard : Said → Turned
@@ -120,10 +129,13 @@ heard Going = came.Going
 heard (Arrived x) = came.Arrived (0, 0, 0)
 heard (Departed drained) = came.Departed drained
 
-abbrev pub after-turn : Tables → ℕ → Tables
-after-turn T a =
+abbrev pub heard-of : Roots → ℕ → Turned
+heard-of T a = heard (turn-at (T .nodes) (job (T .errands) a) .said)
+
+abbrev pub turns : Roots → ℕ → Roots
+turns T a =
     let r = turn-at (T .nodes) (job (T .errands) a) in
-    tables (noted (r .said) (wrote (r .write) (job (T .errands) a .node) (T .nodes))) (set (T .errands) a (r .errand)) (T .open-ones)
+    roots (noted (r .said) (wrote (r .write) (job (T .errands) a .node) (T .nodes))) (set (T .errands) a (r .errand)) (T .opened)
 
 abbrev pub empty? : Kind → Bool
 empty? Empty = true
@@ -134,25 +146,24 @@ abbrev pub read-by : Bool → Reading
 read-by true = Zero
 read-by false = Held
 
-abbrev pub performed : Tables → Request → Reply × Tables
-performed T open-one =
-    cond (leb 256 (T .open-ones)) (opened (Err fault.Full), T)
-    (opened (Ok (T .open-ones, 0)), tables (set (T .nodes) (T .open-ones) opened-root) (T .errands) (T .open-ones + 1))
-performed T (arrive a t p side coin) =
-    begins (may-arrive T a t p) T (tables (T .nodes) (set (T .errands) a (comer t t)) (T .open-ones))
-performed T (depart a t p) =
-    begins (may-depart T a t p) T
-    (tables (set (T .nodes) t (with-out (at (T .nodes) t .out - 1) (at (T .nodes) t))) (set (T .errands) a (goer t t)) (T .open-ones))
-performed T (turn a) =
-    cond (ltb 15 a) (turned (Err fault.NoAgent), T)
-    (cond (idles (job (T .errands) a .phase)) (turned (Err fault.Idle), T)
-    (turned (Ok (heard (turn-at (T .nodes) (job (T .errands) a) .said))), after-turn T a))
-performed T (reading t) =
-    (cond (leb (T .open-ones) t) (reads (Err fault.NotOpen)) (reads (Ok (read-by (empty? (at (T .nodes) t .word .kind))))), T)
+abbrev pub read-of : Roots → ℕ → Result Reading BankFault
+read-of T t = cond (ltb t (T .opened)) (Ok (read-by (empty? (at (T .nodes) t .word .kind)))) (Err fault.NotOpen)
+
+-- the answer and the tables after a call, which the test m has let through or refused
+abbrev pub unless : {A : Type 0} → (Result A BankFault → Reply) → Result Unit BankFault → A → Roots → Roots → Reply × Roots
+unless reply (Ok u) x T U = (reply (Ok x), U)
+unless reply (Err f) x T U = (reply (Err f), T)
+
+abbrev pub performed : Roots → Request → Reply × Roots
+performed T open-one = unless opened (may-open T) (T .opened, 0) T (opens T)
+performed T (arrive a t p side coin) = unless begun (may-arrive T a t p) tt T (sends T a t)
+performed T (depart a t p) = unless begun (may-depart T a t p) tt T (takes T a t)
+performed T (turn a) = unless turned (may-turn T a) (heard-of T a) T (turns T a)
+performed T (reading t) = (reads (read-of T t), T)
 
 -- the call q is answered r, and takes the tables T to U
-abbrev pub Did : Tables → Request → Reply → Tables → Type 0
-Did T q r U = _≡_ {A = Reply × Tables} (r, U) (performed T q)
+abbrev pub Did : Roots → Request → Reply → Roots → Type 0
+Did T q r U = _≡_ {A = Reply × Roots} (r, U) (performed T q)
 
 -- Between calls
 
@@ -225,13 +236,13 @@ lone-by Lower k same = by-word (counted? k && same)
 abbrev pub lone-of : Errand → Word → ℕ
 lone-of e w = lone-by (e .phase) (w .kind) (still e w)
 
-abbrev pub meaning : Tables → Meaning
+abbrev pub meaning : Roots → Meaning
 meaning T = record {
   tallies = 256;
-  opened = T .open-ones;
+  opened = T .opened;
   bound = 1;
   out = (λ t p. out-at (T .nodes) t p);
-  place = (λ t p. ltb t (T .open-ones) && eqb p 0);
+  place = (λ t p. ltb t (T .opened) && eqb p 0);
   doing = (λ a. doing-of (job (T .errands) a));
   zero? = (λ t. empty? (at (T .nodes) t .word .kind));
   lone = (λ a. lone-of (job (T .errands) a) (at (T .nodes) (job (T .errands) a .node) .word));

@@ -5,4 +5,3 @@ pub mod Calls
 pub mod Errands
 pub mod Tables
 pub mod FlatTables
-pub mod Flat

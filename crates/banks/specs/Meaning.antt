@@ -48,6 +48,7 @@ abbrev pub crowd : Meaning → ℕ → ℕ
 crowd m t = receipts m t + sum (λ a. arrives (m .doing a) t) 16
 
 pub record Lawful (m : Meaning) : Type 0 where
+  pub bounded : m .tallies ≤ 256
   pub few : m .opened ≤ m .tallies
   pub low : m .limit ≤ 2000
   pub within : (a : ℕ) → m .lone a ≤ m .limit

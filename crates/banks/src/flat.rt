@@ -1,21 +1,18 @@
 ghost use Rattle.banks.specs.FlatTables.{Sized, Added, Few, Rooted, Closed, Placed, Alone};
-use crate::errand::Errand;
-use crate::node::Node;
+use crate::flat::roots::Roots;
 
 pub mod calls;
-pub mod shown;
+mod roots;
 
 // The flat bank: a root alone for each of 256 tallies, and 0 for every place.
 #[derive(Drop)]
 pub struct Flat {
-    nodes: [Node; 256],
-    errands: [Errand; 16],
-    opened: u16,
-    ghost sized: { Sized nodes errands opened },
-    ghost added: { Added nodes errands },
-    ghost few: { Few nodes errands },
-    ghost rooted: { Rooted nodes },
-    ghost closed: { Closed nodes opened },
-    ghost placed: { Placed errands opened },
-    ghost alone: { Alone errands },
+    roots: Roots,
+    ghost sized: { Sized (roots .nodes) (roots .errands) (roots .opened) },
+    ghost added: { Added (roots .nodes) (roots .errands) },
+    ghost few: { Few (roots .nodes) (roots .errands) },
+    ghost rooted: { Rooted (roots .nodes) },
+    ghost closed: { Closed (roots .nodes) (roots .opened) },
+    ghost placed: { Placed (roots .errands) (roots .opened) },
+    ghost alone: { Alone (roots .errands) },
 }

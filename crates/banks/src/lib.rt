@@ -29,4 +29,4 @@ pub use fault::BankFaultDebug;
 pub use fault::BankFaultEq;
 pub use fault::BankFaultPartialEq;
 pub use flat::Flat;
-pub use flat::shown::FlatBank;
+pub use flat::calls::FlatBank;

@@ -3,9 +3,9 @@ use mathlib.Core.Path.{_≡_, refl, sym, ap, _∙_}
 use mathlib.Core.Bool.{Bool, true, false, cond, _&&_}
 use Prim.Native.Nat.{ℕ, _≤_, _<_, _+_, _*_, _^_, _/_, _%_}
 use native.Mathlib.Omega.{arith}
-use lib.Bits.{bitOr}
+use lib.Bits.{bitAnd, bitOr}
 use lib.Dec.{leb}
-use Rattle.std.proofs.shelf.Bits.{or-shifted}
+use Rattle.std.proofs.shelf.Bits.{or-shifted, and-mask}
 use Rattle.std.proofs.shelf.Ways.{tells}
 use Rattle.std.specs.declared.result.Result.{Result}
 use Rattle.std.specs.declared.result.Result.the-variants.{Ok, Err}
@@ -16,15 +16,18 @@ use Rattle.words.specs.declared.fault.WordFault.the-variants.{Unlawful}
 use Rattle.words.specs.Kinds.{bits, most, least}
 use Rattle.words.specs.Words.{Plain, plain, code, unpacked, formed, fits, Lawful, Packed}
 
--- the parts under their shifts are the sum of the parts
-pub joined : (k c v : ℕ) → k < 4 → c < 2 ^ 14 → v < 2 ^ 16 → bitOr (bitOr ((k * 2 ^ 30) % 2 ^ 32) ((c * 2 ^ 16) % 2 ^ 32)) v ≡ k * 2 ^ 30 + c * 2 ^ 16 + v
+-- the parts under their masks and shifts are the sum of the parts
+pub joined : (k c v : ℕ) → k < 4 → c < 2 ^ 14 → v < 2 ^ 16
+    → bitOr (bitOr ((k * 2 ^ 30) % 2 ^ 32) ((bitAnd c 16383 * 2 ^ 16) % 2 ^ 32)) (bitAnd v 65535) ≡ k * 2 ^ 30 + c * 2 ^ 16 + v
 joined k c v hk hc hv =
+    let mc : bitAnd c 16383 ≡ c = and-mask c 14 ∙ omega arith in
+    let mv : bitAnd v 65535 ≡ v = and-mask v 16 ∙ omega arith in
     let e1 : (k * 2 ^ 30) % 2 ^ 32 ≡ k * 2 ^ 30 = omega arith in
     let e2 : (c * 2 ^ 16) % 2 ^ 32 ≡ c * 2 ^ 16 = omega arith in
     let lo : c * 2 ^ 16 < 2 ^ 30 = omega arith in
     let o1 : bitOr (k * 2 ^ 30) (c * 2 ^ 16) ≡ (k * 2 ^ 14 + c) * 2 ^ 16 = or-shifted k 30 (c * 2 ^ 16) lo ∙ omega arith in
     let o2 : bitOr ((k * 2 ^ 14 + c) * 2 ^ 16) v ≡ (k * 2 ^ 14 + c) * 2 ^ 16 + v = or-shifted (k * 2 ^ 14 + c) 16 v hv in
-    rw (e1, e2, o1, o2) (omega arith)
+    rw (mc, mv, e1, e2, o1, o2) (omega arith)
 
 pub bits-below : (k : Kind) → bits k < 4
 bits-below Empty = omega arith

@@ -12,7 +12,7 @@ impl Word {
         ensures again { λ r. ⌜ unpacked r ≡ Ok (shown (now (self .entry))) ⌝ }
     {
         let kind = self.kind.bits();
-        (kind << 30) | ((self.count as u32) << 16) | self.version as u32
+        (kind << 30) | ((self.count as u32 & 0x3fff) << 16) | (self.version as u32 & 0xffff)
     }
 
     // The word that has these bits. Every number that no lawful word has is refused.
