@@ -5,3 +5,4 @@ pub mod Calls
 pub mod Errands
 pub mod Tables
 pub mod FlatTables
+pub mod Flat

@@ -1,12 +1,13 @@
 -- The 32 bits of a word: packing and unpacking undo each other.
 use mathlib.Core.Path.{_≡_, refl, sym, ap, _∙_}
+use mathlib.Core.Logic.{inl, inr}
 use mathlib.Core.Bool.{Bool, true, false, cond, _&&_}
 use Prim.Native.Nat.{ℕ, _≤_, _<_, _+_, _*_, _^_, _/_, _%_}
 use native.Mathlib.Omega.{arith}
 use lib.Bits.{bitAnd, bitOr}
 use lib.Dec.{leb}
 use Rattle.std.proofs.shelf.Bits.{or-shifted, and-mask}
-use Rattle.std.proofs.shelf.Ways.{tells}
+use Rattle.std.proofs.shelf.Ways.{tells, eqb-tells}
 use Rattle.std.specs.declared.result.Result.{Result}
 use Rattle.std.specs.declared.result.Result.the-variants.{Ok, Err}
 use Rattle.words.specs.declared.kind.Kind.{Kind}
@@ -14,7 +15,7 @@ use Rattle.words.specs.declared.kind.Kind.the-variants.{Empty, Half, Counted}
 use Rattle.words.specs.declared.fault.WordFault.{WordFault}
 use Rattle.words.specs.declared.fault.WordFault.the-variants.{Unlawful}
 use Rattle.words.specs.Kinds.{bits, most, least}
-use Rattle.words.specs.Words.{Plain, plain, code, unpacked, formed, fits, Lawful, Packed}
+use Rattle.words.specs.Words.{Plain, plain, code, parted, unpacked, formed, fits, Lawful, Packed}
 
 -- the parts under their masks and shifts are the sum of the parts
 pub joined : (k c v : ℕ) → k < 4 → c < 2 ^ 14 → v < 2 ^ 16
@@ -82,13 +83,33 @@ fit k c h = (grind (arith, tells), grind (arith, tells))
 sums : (n q : ℕ) → n / 2 ^ 30 ≡ q → q * 2 ^ 30 + (n / 2 ^ 16 % 2 ^ 14) * 2 ^ 16 + n % 2 ^ 16 ≡ n
 sums n q h = omega arith
 
--- what was formed for one kind is right by the packing
-gives : (n : ℕ) (k : Kind) (w : Plain) → n / 2 ^ 30 ≡ bits k → formed k (n / 2 ^ 16 % 2 ^ 14) (n % 2 ^ 16) ≡ Ok w → Packed n (Ok w)
+-- what was formed for one kind has these bits
+gives : (n : ℕ) (k : Kind) (w : Plain) → n / 2 ^ 30 ≡ bits k → formed k (n / 2 ^ 16 % 2 ^ 14) (n % 2 ^ 16) ≡ Ok w → Lawful w × (code w ≡ n)
 gives n k w h e =
     let m = made k (n / 2 ^ 16 % 2 ^ 14) (n % 2 ^ 16) w e in
     let f = fit k (n / 2 ^ 16 % 2 ^ 14) (m .1) in
     rw (m .0) ((f .0, f .1, omega arith), sums n (bits k) h)
 
-pub right : (n : ℕ) (k : Kind) (r : Result Plain WordFault) → n / 2 ^ 30 ≡ bits k → r ≡ formed k (n / 2 ^ 16 % 2 ^ 14) (n % 2 ^ 16) → r ≡ unpacked n → Packed n r
-right n k (Ok w) h e u = gives n k w h (sym e)
-right n k (Err x) h e u = λ w. refuses n x w (sym u)
+-- by the kind bits
+by-kind : (n q : ℕ) (w : Plain) → n / 2 ^ 30 ≡ q → parted q (n / 2 ^ 16 % 2 ^ 14) (n % 2 ^ 16) ≡ Ok w → Lawful w × (code w ≡ n)
+by-kind n q w h e = elim (eqb-tells q 0) [
+  | inl z ↦ gives n Empty w (h ∙ z .1) (rw (z .0) at e)
+  | inr a ↦ elim (eqb-tells q 1) [
+    | inl z ↦ gives n Half w (h ∙ z .1) (rw (a .0, z .0) at e)
+    | inr b ↦ elim (eqb-tells q 2) [
+      | inl z ↦ gives n Counted w (h ∙ z .1) (rw (a .0, b .0, z .0) at e)
+      | inr c ↦ let f : Err Unlawful ≡ Ok w = rw (a .0, b .0, c .0) at e in let z : _≡_ {A = ℕ} 0 1 = cc in absurd (omega arith)
+    ]
+  ]
+]
+
+-- no other lawful word has them
+only : (n : ℕ) (w v : Plain) → unpacked n ≡ Ok w → Lawful v → code v ≡ n → v ≡ w
+only n w v e l c =
+    let a : unpacked (code v) ≡ Ok v = again (v .kind) (v .count) (v .version) (l .0) (l .1) (l .2) in
+    let b : unpacked (code v) ≡ unpacked n = ap unpacked c in
+    cc
+
+pub right : (n : ℕ) (r : Result Plain WordFault) → r ≡ unpacked n → Packed n r
+right n (Ok w) u = let g = by-kind n (n / 2 ^ 30) w refl (sym u) in (g .0, g .1, λ v. only n w v (sym u))
+right n (Err x) u = λ w. refuses n x w (sym u)

@@ -4,7 +4,7 @@
 --     formed k c v         the word of these parts, or the refusal
 --     code w               the 32 bits of w
 --     unpacked n           the word that the bits n spell, or the refusal
---     Packed n r           r is the lawful word whose bits are n, or the refusal where there is none
+--     Packed n r           r is the one lawful word whose bits are n, or the refusal where there is none
 --     same a b             whether two words are the same
 --     blank                the word of a node that nobody has used
 use mathlib.Core.Path.{_≡_}
@@ -56,7 +56,7 @@ abbrev pub unpacked : ℕ → Result Plain WordFault
 unpacked n = parted (n / 2 ^ 30) (n / 2 ^ 16 % 2 ^ 14) (n % 2 ^ 16)
 
 abbrev pub Packed : ℕ → Result Plain WordFault → Type 0
-Packed n (Ok w) = Lawful w × (code w ≡ n)
+Packed n (Ok w) = Lawful w × (code w ≡ n) × ((v : Plain) → Lawful v → code v ≡ n → v ≡ w)
 Packed n (Err e) = (w : Plain) → Lawful w → code w ≡ n → ⊥
 
 abbrev pub same : Plain → Plain → Bool

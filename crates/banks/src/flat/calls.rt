@@ -1,5 +1,4 @@
-ghost use mathlib.Core.Path.{_≡_};
-ghost use Rattle.banks.specs.FlatTables.{Did, meaning, first-roots};
+ghost use Rattle.banks.specs.Flat.{Fresh, flat-means, flat-does};
 ghost use Rattle.banks.specs.Meaning.{New};
 use crate::answer::Coin;
 use crate::answer::Reading;
@@ -13,8 +12,8 @@ use crate::flat::roots::Roots;
 impl Flat {
     // A new bank: no tally is open and all agents are idle.
     pub fn new() -> Flat
-        ensures value { λ r. ⌜ r .roots ≡ first-roots ⌝ }
-        ensures new { λ r. ⌜ New (meaning (r .roots)) ⌝ }
+        ensures value { λ r. ⌜ Fresh r ⌝ }
+        ensures new { λ r. ⌜ New (flat-means r) ⌝ }
     {
         Flat {
             roots: Roots::new(),
@@ -26,9 +25,9 @@ impl Flat {
 pub impl Bank for Flat as FlatBank {
     const LONE_LIMIT: u16 = 3;
 
-    ghost means = { λ b. meaning (b .roots) };
+    ghost means = { flat-means };
 
-    ghost does = { λ b q r c. Did (b .roots) q r (c .roots) };
+    ghost does = { flat-does };
 
     fn limit(&self) -> u16 {
         FlatBank::LONE_LIMIT

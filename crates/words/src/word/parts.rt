@@ -1,21 +1,10 @@
 ghost use mathlib.Core.Path.{_≡_};
-ghost use Rattle.words.specs.Words.{shown, seen, formed, blank};
+ghost use Rattle.words.specs.Words.{seen, formed};
 use crate::fault::WordFault;
 use crate::kind::Kind;
 use crate::word::Word;
 
 impl Word {
-    // The word of a node that nobody has used.
-    pub fn blank() -> Word
-        ensures { λ r. ⌜ r ≡ blank ⌝ }
-    {
-        Word {
-            kind: Kind::Empty,
-            count: 0,
-            version: 0,
-        }
-    }
-
     // A word of these three parts, refused where kind and count disagree.
     pub fn new(kind: Kind, count: u16, version: u16) -> Result<Word, WordFault>
         ensures { λ r. ⌜ seen r ≡ formed kind count version ⌝ }

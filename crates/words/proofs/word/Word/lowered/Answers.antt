@@ -5,7 +5,6 @@ use Prim.Native.Nat.{ℕ, _-_, _<_, _≤_, max}
 use native.Mathlib.Omega.{arith}
 use lib.Dec.{leb}
 use Rattle.std.proofs.shelf.Ways.{leb-tells}
-use borrow.Author.Needs.{needs}
 use Rattle.words.specs.declared.kind.Kind.the-variants.{Counted}
 use Rattle.words.specs.declared.word.Word.{Word}
 use Rattle.words.specs.Words.{shown, plain}
@@ -21,4 +20,4 @@ lowers w =
     ]
 
 pub returns : need.returns
-returns c = record { value = search needs; whole = equal _ _ ((search needs) ∙ lowers (c .args .self)) }
+returns c = record { value = c .lower .ensures; whole = equal _ _ (c .lower .ensures ∙ lowers (c .args .self)) }

@@ -1,6 +1,5 @@
 use mathlib.Core.Path.{_≡_, refl, _∙_}
 use mathlib.Core.Bool.{Bool, true, false}
-use borrow.Author.Needs.{needs}
 use Rattle.words.specs.declared.word.Word.{Word}
 use Rattle.words.specs.Words.{shown}
 use Rattle.words.specs.Steps.{opening, opened}
@@ -12,4 +11,4 @@ opens true w = refl
 opens false w = refl
 
 pub returns : need.returns
-returns c = record { value = search needs; whole = equal _ _ ((search needs) ∙ opens (c .args .root) (c .args .self)) }
+returns c = record { value = c .opening .ensures; whole = equal _ _ (c .opening .ensures ∙ opens (c .args .root) (c .args .self)) }
