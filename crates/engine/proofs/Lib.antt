@@ -1,0 +1,5 @@
+pub mod Options
+pub mod Lists
+pub mod Sound
+pub mod Refusals
+pub mod Steps
