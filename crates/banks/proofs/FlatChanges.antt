@@ -1,23 +1,22 @@
 -- What each call of the flat bank changes.
-use mathlib.Core.Path.{_≡_, refl, sym, ap, subst, _∙_}
-use mathlib.Core.Bool.{Bool, true, false, cond}
+use mathlib.Core.Path.{_≡_, refl, ap, subst, _∙_}
+use mathlib.Core.Bool.{true, false}
 use mathlib.Core.List.{List}
 use Prim.Native.Nat.{ℕ, _+_, _-_, _<_, _≤_}
 use native.Mathlib.Omega.{arith}
-use lib.Dec.{lit<}
-use lib.ListN.{length, getD, set, replicate, length-set, getD-replicate}
+use lib.ListN.{length, set, replicate, length-set, getD-replicate}
 use Rattle.std.proofs.shelf.Lists.{getD-past}
 use Rattle.std.proofs.shelf.Tests.{cases-lt}
 use mathlib.Core.Logic.{inl, inr}
 use Rattle.banks.specs.declared.errand.Errand.{Errand}
 use Rattle.banks.specs.declared.node.Node.{Node}
-use Rattle.banks.specs.Counting.{one, sum}
+use Rattle.banks.specs.Counting.{sum}
 use Rattle.banks.specs.Errands.{no-errand, idles, comer, goer}
-use Rattle.banks.specs.FlatTables.{opened-root, doing-of, departs, comers, goers, half?, none?}
-use Rattle.banks.specs.Meaning.{Doing, idle, arriving, departing, arrives}
+use Rattle.banks.specs.FlatTables.{opened-root, doing-of, departs, comers}
+use Rattle.banks.specs.Meaning.{Doing, idle, arrives}
 use Rattle.banks.specs.Tables.{no-node, at, job, with-out}
 use Rattle.banks.proofs.Counting.{one-same, one-other, at-set, but-set, sum-none, true-false}
-use Rattle.banks.proofs.FlatCounts.{idle-by, comers-none, goers-none, departs-there, arrives-there}
+use Rattle.banks.proofs.FlatCounts.{idle-by, comers-none, goers-none}
 use Rattle.banks.proofs.FlatKept.{Kept, Change}
 
 -- a new bank

@@ -44,18 +44,10 @@ one-le : (i j : ℕ) → one i j ≤ 1
 unfolding one
 one-le i j = elim (eqb i j) as (λ b. cond b 1 0 ≤ 1) [ true ↦ omega arith | false ↦ omega arith ]
 
-arrives-le : (d : Doing) (t : ℕ) → arrives d t ≤ 1
-arrives-le idle t = omega arith
-arrives-le (arriving u) t = one-le u t
-arrives-le (departing u) t = omega arith
-
 departs-le : (d : Doing) (t : ℕ) → departs d t ≤ 1
 departs-le idle t = omega arith
 departs-le (arriving u) t = omega arith
 departs-le (departing u) t = one-le u t
-
-pub comers-few : (es : List Errand) (t : ℕ) → comers es t ≤ 16
-comers-few es t = sum-few (λ a. arrives (doing-of (job es a)) t) 16 (λ k. arrives-le (doing-of (job es k)) t)
 
 pub goers-few : (es : List Errand) (t : ℕ) → goers es t ≤ 16
 goers-few es t = sum-few (λ a. departs (doing-of (job es a)) t) 16 (λ k. departs-le (doing-of (job es k)) t)

@@ -1,21 +1,21 @@
 -- What holds of the flat bank's tables between calls, and that it lasts.
-use mathlib.Core.Path.{_≡_, refl, sym, ap, subst, _∙_}
+use mathlib.Core.Path.{_≡_, sym, ap, subst}
 use mathlib.Core.Logic.{inl, inr}
-use mathlib.Core.Bool.{Bool, true, false, cond}
+use mathlib.Core.Bool.{true, false}
 use mathlib.Core.List.{List}
 use Prim.Native.Nat.{ℕ, _+_, _-_, _<_, _≤_}
 use native.Mathlib.Omega.{arith}
-use lib.ListN.{length, getD, set, replicate}
+use lib.ListN.{length}
 use Rattle.std.proofs.shelf.Tests.{cases-eq}
 use Rattle.banks.specs.declared.errand.Errand.{Errand}
 use Rattle.banks.specs.declared.flat.roots.Roots.{Roots}
 use Rattle.banks.specs.declared.node.Node.{Node}
-use Rattle.banks.specs.Counting.{one, sum}
-use Rattle.banks.specs.Errands.{no-errand, idles}
+use Rattle.banks.specs.Counting.{sum}
+use Rattle.banks.specs.Errands.{idles}
 use Rattle.banks.specs.FlatTables.{Sized, Added, Few, Rooted, Closed, Placed, Alone, doing-of, departs, comers, goers, half?, none?, settles?}
-use Rattle.banks.specs.Meaning.{Doing, idle, arriving, departing, arrives}
+use Rattle.banks.specs.Meaning.{Doing, arrives}
 use Rattle.banks.specs.Tables.{at, job}
-use Rattle.banks.proofs.Counting.{sum-but, one-other, one-same}
+use Rattle.banks.proofs.Counting.{sum-but}
 
 pub record Kept (ns : List Node) (es : List Errand) (o : ℕ) : Type 0 where
   pub sized : Sized ns es o

@@ -1,17 +1,15 @@
 -- What every bank shows in every state holds of the flat bank.
-use mathlib.Core.Path.{_≡_, refl, sym, ap, subst, _∙_}
+use mathlib.Core.Path.{_≡_, refl, sym, ap, _∙_}
 use mathlib.Core.Logic.{inl, inr}
-use mathlib.Core.Bool.{Bool, true, false, cond, _&&_}
+use mathlib.Core.Bool.{Bool, true, false, cond}
 use mathlib.Core.List.{List}
-use Prim.Native.Nat.{ℕ, _+_, _<_, _≤_}
+use Prim.Native.Nat.{ℕ, _≤_}
 use native.Mathlib.Omega.{arith}
 use lib.Dec.{eqb, lit≤}
-use lib.ListN.{length, getD}
 use Rattle.std.proofs.shelf.Lists.{getD-past}
-use Rattle.std.proofs.shelf.Tests.{cases-eq, cases-lt, cond-true, cond-false, eq-eqb, ne-eqb}
+use Rattle.std.proofs.shelf.Tests.{cases-lt, cond-false, ne-eqb}
 use Rattle.words.specs.declared.kind.Kind.{Kind}
 use Rattle.words.specs.declared.kind.Kind.the-variants.{Empty, Half, Counted}
-use Rattle.words.specs.declared.word.Word.{Word}
 use Rattle.words.specs.Kinds.{least, most}
 use Rattle.banks.specs.declared.errand.Errand.{Errand}
 use Rattle.banks.specs.declared.errand.Phase.{Phase}
@@ -19,9 +17,9 @@ use Rattle.banks.specs.declared.errand.Phase.the-variants.{Idle, Read, Raise, 
 use Rattle.banks.specs.declared.node.Node.{Node}
 use Rattle.banks.specs.Counting.{one, sum}
 use Rattle.banks.specs.Errands.{no-errand}
-use Rattle.banks.specs.FlatTables.{roots, meaning, out-at, doing-by, doing-of, departs, goers, empty?, half?, by-word, lone-by, lone-of, first-roots}
+use Rattle.banks.specs.FlatTables.{roots, meaning, out-at, doing-by, doing-of, departs, goers, empty?, half?, by-word, lone-by, first-roots}
 use Rattle.banks.specs.Meaning.{Doing, idle, arriving, departing, Lawful, New}
-use Rattle.banks.specs.Tables.{no-node, at, job}
+use Rattle.banks.specs.Tables.{at, job}
 use Rattle.banks.proofs.Counting.{one-same, one-other, part-le, sum-none, true-false}
 use Rattle.banks.proofs.FlatChanges.{kept-new, blank-node, blank-errand}
 use Rattle.banks.proofs.FlatKept.{Kept}
@@ -82,9 +80,6 @@ works-not Look t k b e = absurd (omega arith)
 works-not Lower t k b e = absurd (word-some _ e)
 
 -- Receipts out
-
-pub out-here : (ns : List Node) (t : ℕ) → out-at ns t 0 ≡ at ns t .out
-out-here ns t = refl
 
 pub out-else : (ns : List Node) (t p : ℕ) → (p ≡ 0 → ⊥) → out-at ns t p ≡ 0
 out-else ns t p n = cond-false (eqb p 0) (at ns t .out) 0 (ne-eqb p 0 n)

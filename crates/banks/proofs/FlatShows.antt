@@ -1,11 +1,11 @@
 -- What the flat bank's calls do shows the meaning of a bank.
 use mathlib.Core.Path.{_≡_, refl, sym, ap, subst, _∙_, fun-ext}
 use mathlib.Core.Logic.{inl, inr}
-use mathlib.Core.Bool.{Bool, true, false, cond, _&&_}
+use mathlib.Core.Bool.{true, cond, _&&_}
 use mathlib.Core.List.{List}
 use Prim.Native.Nat.{ℕ, _+_, _-_, _<_, _≤_}
 use native.Mathlib.Omega.{arith}
-use lib.Dec.{eqb, leb, ltb}
+use lib.Dec.{eqb, ltb}
 use lib.ListN.{length, set}
 use Rattle.std.proofs.shelf.Tests.{cases-eq, cond-true, cond-false, eq-eqb, ne-eqb}
 use Rattle.std.proofs.shelf.Ways.{tells}
@@ -26,7 +26,7 @@ use Rattle.banks.proofs.Counting.{put-other, put-by, one-same, one-other, at-s
 use Rattle.banks.proofs.FlatFacts.{kept-open, kept-send, kept-take}
 use Rattle.banks.proofs.FlatKept.{Kept-of}
 use Rattle.banks.proofs.FlatLawful.{lawful, out-else}
-use Rattle.banks.proofs.FlatRefusals.{told, told-ok, open-refused, arrive-refused, depart-refused, Departing, opens-low, arrives-so, departs-so}
+use Rattle.banks.proofs.FlatRefusals.{told, open-refused, arrive-refused, depart-refused, Departing, opens-low, arrives-so, departs-so}
 
 -- a call that its test lets through
 pub did : {A : Type 0} (reply : Result A BankFault → Reply) (m : Result (Unit {0}) BankFault) (u : Unit {0}) (x y : A) (T U V : Roots)

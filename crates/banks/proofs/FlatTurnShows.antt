@@ -2,7 +2,7 @@
 use mathlib.Core.Path.{_≡_, refl, sym, ap, subst, _∙_}
 use mathlib.Core.Bool.{Bool, true, false, cond, not}
 use mathlib.Core.List.{List}
-use Prim.Native.Nat.{ℕ, _+_, _<_, _≤_}
+use Prim.Native.Nat.{ℕ, _+_, _<_}
 use native.Mathlib.Omega.{arith}
 use lib.Dec.{eqb, leb, ltb}
 use lib.ListN.{length, set}
@@ -17,7 +17,7 @@ use Rattle.banks.specs.declared.answer.Reading.the-variants.{Held, Zero}
 use Rattle.banks.specs.declared.errand.After.{After}
 use Rattle.banks.specs.declared.errand.Errand.{Errand}
 use Rattle.banks.specs.declared.errand.Said.{Said}
-use Rattle.banks.specs.declared.errand.Said.the-variants.{Going, Arrived, Departed}
+use Rattle.banks.specs.declared.errand.Said.the-variants.{Arrived, Departed}
 use Rattle.banks.specs.declared.fault.BankFault.{BankFault}
 use Rattle.banks.specs.declared.fault.BankFault.the-variants as fault
 use Rattle.banks.specs.declared.flat.roots.Roots.{Roots}
@@ -26,7 +26,7 @@ use Rattle.banks.specs.Calls.{Comes-to, ReadOf}
 use Rattle.banks.specs.Counting.{put}
 use Rattle.banks.specs.Errands.{no-errand, idles}
 use Rattle.banks.specs.FlatTables.{meaning, turns, heard, heard-of, out-at, doing-of, empty?, lone-of, read-by, read-of, may-turn}
-use Rattle.banks.specs.Meaning.{Doing, idle, arriving, departing, Turns, turn-refusal, reading-refusal}
+use Rattle.banks.specs.Meaning.{Doing, idle, Turns, turn-refusal}
 use Rattle.banks.specs.Refusals.{number}
 use Rattle.banks.specs.Tables.{at, job, turn-at, with-word, wrote, noted}
 use Rattle.banks.proofs.Counting.{at-set, put-back}

@@ -1,6 +1,6 @@
 -- What a turn changes in the flat bank's tables.
 use mathlib.Core.Path.{_≡_, refl, sym, ap, subst, _∙_}
-use mathlib.Core.Bool.{Bool, true, false, cond}
+use mathlib.Core.Bool.{Bool, false}
 use mathlib.Core.List.{List}
 use Prim.Native.Nat.{ℕ, _+_, _<_, _≤_}
 use native.Mathlib.Omega.{arith}
@@ -14,8 +14,8 @@ use Rattle.banks.specs.declared.errand.Said.{Said}
 use Rattle.banks.specs.declared.errand.Said.the-variants.{Going, Arrived, Departed}
 use Rattle.banks.specs.declared.node.Node.{Node}
 use Rattle.banks.specs.Errands.{no-errand, idles}
-use Rattle.banks.specs.FlatTables.{doing-of, departs, comers, goers, half?, none?, settles?}
-use Rattle.banks.specs.Meaning.{Doing, arriving, departing, arrives}
+use Rattle.banks.specs.FlatTables.{doing-of, departs, goers, half?}
+use Rattle.banks.specs.Meaning.{arriving, departing, arrives}
 use Rattle.banks.specs.Tables.{no-node, at, job, turn-at, with-word, with-out, wrote, noted}
 use Rattle.banks.proofs.Counting.{one-same, at-set, but-set, part-le, true-false}
 use Rattle.banks.proofs.FlatCounts.{goers-few, arrives-there, departs-there}

@@ -1,13 +1,12 @@
 -- What a turn at a root comes to: the errand goes on, its arrival has ended, or its departure has.
-use mathlib.Core.Path.{_≡_, refl, sym, ap, subst, _∙_}
-use mathlib.Core.Logic.{inl, inr}
-use mathlib.Core.Bool.{Bool, true, false, cond, _&&_}
+use mathlib.Core.Path.{_≡_, refl, sym, subst}
+use mathlib.Core.Bool.{Bool, true, false, cond}
 use mathlib.Core.List.{List}
 use Prim.Native.Nat.{ℕ, _+_, _<_, _≤_}
 use native.Mathlib.Omega.{arith}
-use lib.Dec.{eqb, leb, lit≤, lit<}
-use Rattle.std.proofs.shelf.Tests.{eq-eqb, cases-bool, cond-true, cond-false}
-use Rattle.std.proofs.shelf.Ways.{leb-tells, tells}
+use lib.Dec.{leb, lit≤, lit<}
+use Rattle.std.proofs.shelf.Tests.{eq-eqb}
+use Rattle.std.proofs.shelf.Ways.{tells}
 use Rattle.std.specs.declared.option.Option.{Option}
 use Rattle.std.specs.declared.option.Option.the-variants.{None, Some}
 use Rattle.words.specs.declared.kind.Kind.{Kind}

@@ -3,7 +3,7 @@
 --     OpenOf means b r c, ArriveOf .., DepartOf .., TurnOf .., ReadOf ..
 --     Request, Reply       a call with its arguments, and its answer: what a bank's exact relation speaks of
 use mathlib.Core.Path.{_≡_}
-use mathlib.Core.Bool.{Bool, true, false}
+use mathlib.Core.Bool.{true, false}
 use Prim.Native.Nat.{ℕ}
 use Rattle.std.specs.declared.option.Option.the-variants.{Some, None}
 use Rattle.std.specs.declared.result.Result.{Result}
@@ -16,21 +16,7 @@ use Rattle.banks.specs.declared.answer.Turned.{Turned}
 use Rattle.banks.specs.declared.answer.Turned.the-variants as came
 use Rattle.banks.specs.declared.fault.BankFault.{BankFault}
 use Rattle.banks.specs.Refusals.{number}
-use Rattle.banks.specs.Meaning.{
-  Meaning,
-  Lawful,
-  Opens,
-  Arrives,
-  Departs,
-  Goes,
-  Arrived,
-  Departed,
-  open-refusal,
-  arrive-refusal,
-  depart-refusal,
-  turn-refusal,
-  reading-refusal,
-}
+use Rattle.banks.specs.Meaning.{Meaning, Opens, Arrives, Departs, Goes, Arrived, Departed, open-refusal, arrive-refusal, depart-refusal, turn-refusal, reading-refusal}
 
 pub data Request : Type 0 where
   open-one : Request

@@ -2,7 +2,7 @@
 --     put f i x            f, but x at i
 --     one i j              1 where i is j, else 0
 --     sum f n              f 0 + .. + f (n - 1)
-use mathlib.Core.Bool.{Bool, cond}
+use mathlib.Core.Bool.{cond}
 use Prim.Native.Nat.{ℕ, zero, suc, _+_}
 use lib.Dec.{eqb}
 

@@ -1,9 +1,7 @@
 -- One turn of an errand: what it leaves at its node and of itself.
 --     comer t x, goer t x            an errand of the tally t that begins to arrive at, or to depart from, the node x
 --     turned p k e w up              the turn of e, which is in phase p, where the word w of kind k is found, at a node with the parent up
-use mathlib.Core.Path.{_≡_}
 use mathlib.Core.Bool.{Bool, true, false, cond}
-use mathlib.Core.List.{List}
 use Prim.Native.Nat.{ℕ, _+_, _-_}
 use lib.Dec.{eqb, leb}
 use lib.ListN.{getD, set, replicate}
@@ -21,7 +19,6 @@ use Rattle.banks.specs.declared.errand.Phase.{Phase}
 use Rattle.banks.specs.declared.errand.Phase.the-variants.{Idle, Read, Raise, Open, Settle, Look, Lower}
 use Rattle.banks.specs.declared.errand.Role.{Role}
 use Rattle.banks.specs.declared.errand.Role.the-variants.{Owner, Helper}
-use Rattle.banks.specs.declared.errand.Said.{Said}
 use Rattle.banks.specs.declared.errand.Said.the-variants.{Going, Arrived, Departed}
 
 abbrev pub no-frame : Frame

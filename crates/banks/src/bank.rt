@@ -1,5 +1,4 @@
 ghost use mathlib.Core.Path.{_≡_};
-ghost use Prim.Native.Nat.{ℕ};
 ghost use Rattle.banks.specs.Meaning.{Meaning, Lawful};
 ghost use Rattle.banks.specs.Calls.{Request, Reply, OpenOf, ArriveOf, DepartOf, TurnOf, ReadOf};
 ghost use Rattle.banks.specs.Calls.{open-one, arrive as arriving, depart as departing, turn as turning, reading as asking};

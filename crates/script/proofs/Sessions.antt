@@ -1,5 +1,5 @@
 -- The lines of a script, told over a bank.
-use mathlib.Core.Path.{_≡_, sym, ap, subst, _∙_}
+use mathlib.Core.Path.{_≡_, ap, subst, _∙_}
 use mathlib.Core.List.{List}
 use Prim.Native.Nat.{ℕ}
 use Rattle.std.proofs.shelf.Results.{made-weaker}

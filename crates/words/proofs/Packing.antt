@@ -1,11 +1,10 @@
 -- The 32 bits of a word: packing and unpacking undo each other.
 use mathlib.Core.Path.{_≡_, refl, sym, ap, _∙_}
 use mathlib.Core.Logic.{inl, inr}
-use mathlib.Core.Bool.{Bool, true, false, cond, _&&_}
+use mathlib.Core.Bool.{true, false, cond}
 use Prim.Native.Nat.{ℕ, _≤_, _<_, _+_, _*_, _^_, _/_, _%_}
 use native.Mathlib.Omega.{arith}
 use lib.Bits.{bitAnd, bitOr}
-use lib.Dec.{leb}
 use Rattle.std.proofs.shelf.Bits.{or-shifted, and-mask}
 use Rattle.std.proofs.shelf.Ways.{tells, eqb-tells}
 use Rattle.std.specs.declared.result.Result.{Result}

@@ -3,9 +3,8 @@
 --     opening root, opened root  half, at a root counted with count 1; the version one higher, going round after 65,535
 --     settling, settled          counted with count 1
 --     lower, lowered             one lower, or empty where nothing would be left
-use mathlib.Core.Path.{_≡_}
 use mathlib.Core.Bool.{Bool, true, false, cond}
-use Prim.Native.Nat.{ℕ, _≤_, _<_, _+_, _-_, _%_, _^_, min, max}
+use Prim.Native.Nat.{_≤_, _+_, _-_, _%_, _^_, min, max}
 use lib.Dec.{leb}
 use native.Mathlib.Omega.{arith}
 use Rattle.words.specs.declared.kind.Kind.{Kind}

@@ -8,7 +8,7 @@
 --     same a b             whether two words are the same
 --     blank                the word of a node that nobody has used
 use mathlib.Core.Path.{_≡_}
-use mathlib.Core.Bool.{Bool, true, false, cond, _&&_}
+use mathlib.Core.Bool.{Bool, cond, _&&_}
 use Prim.Native.Nat.{ℕ, _≤_, _<_, _+_, _*_, _^_, _/_, _%_}
 use lib.Dec.{leb, eqb, lit≤, lit<}
 use Rattle.std.specs.declared.result.Result.{Result}

@@ -1,4 +1,4 @@
-ghost use Prim.Native.Nat.{ℕ, _≤_, _<_};
+ghost use Prim.Native.Nat.{_≤_, _<_};
 ghost use Rattle.words.specs.Kinds.{least, most};
 use crate::kind::Kind;
 use crate::kind::KindDebug;

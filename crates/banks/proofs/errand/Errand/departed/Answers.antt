@@ -1,5 +1,4 @@
 use mathlib.Core.Path.{sym, _∙_}
-use mathlib.Core.Bool.{cond}
 use lib.Dec.{eqb}
 use Rattle.std.proofs.shelf.Tests.{cond-false, ne-eqb}
 use Rattle.banks.specs.Errands.{resumed}

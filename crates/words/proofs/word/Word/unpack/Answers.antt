@@ -1,5 +1,5 @@
 use mathlib.Core.Path.{_≡_, _∙_}
-use Prim.Native.Nat.{ℕ, _/_, _^_, _%_}
+use Prim.Native.Nat.{ℕ, _/_, _^_}
 use lib.Bits.{bitAnd}
 use Rattle.std.proofs.shelf.Bits.{and-mask}
 use Rattle.std.specs.declared.result.Result.{Result}

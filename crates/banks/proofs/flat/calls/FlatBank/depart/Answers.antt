@@ -1,4 +1,4 @@
-use mathlib.Core.Path.{_≡_, refl, sym, subst, _∙_}
+use mathlib.Core.Path.{refl, sym, subst, _∙_}
 use Rattle.banks.specs.declared.flat.roots.Roots.{Roots}
 use Rattle.banks.specs.Calls.{begun}
 use Rattle.banks.specs.FlatTables.{meaning, takes, may-depart}

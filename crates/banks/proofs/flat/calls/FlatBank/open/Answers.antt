@@ -1,5 +1,4 @@
-use mathlib.Core.Path.{_≡_, refl, sym, ap, subst, _∙_}
-use Rattle.std.specs.declared.option.Option.the-variants.{None}
+use mathlib.Core.Path.{sym, ap, subst, _∙_}
 use Prim.Native.Nat.{ℕ}
 use Rattle.banks.specs.declared.flat.roots.Roots.{Roots}
 use Rattle.banks.specs.Calls.{opened}
@@ -7,7 +6,7 @@ use Rattle.banks.specs.FlatTables.{meaning, opens, may-open}
 use Rattle.banks.specs.Meaning.{Opens}
 use Rattle.banks.proofs.FlatFacts.{kept, kept-open}
 use Rattle.banks.proofs.FlatKept.{ghost}
-use Rattle.banks.proofs.FlatRefusals.{told, told-ok, opens-low}
+use Rattle.banks.proofs.FlatRefusals.{told-ok, opens-low}
 use Rattle.banks.proofs.FlatShows.{did, open-shows}
 use Rattle.banks.proofs.flat.calls.FlatBank.open.Needs as need
 

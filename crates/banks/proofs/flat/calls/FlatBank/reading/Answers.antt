@@ -1,9 +1,4 @@
-use mathlib.Core.Path.{ap}
-use Rattle.std.specs.declared.result.Result.{Result}
-use Rattle.banks.specs.declared.answer.Reading.{Reading}
-use Rattle.banks.specs.declared.fault.BankFault.{BankFault}
-use Rattle.banks.specs.declared.flat.roots.Roots.{Roots}
-use Rattle.banks.specs.Calls.{Reply, reads}
+use Rattle.banks.specs.Calls.{reads}
 use Rattle.banks.proofs.FlatFacts.{kept}
 use Rattle.banks.proofs.FlatLawful.{lawful}
 use Rattle.banks.proofs.FlatTurnShows.{read-shows}

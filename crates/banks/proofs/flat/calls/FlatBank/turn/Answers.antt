@@ -1,4 +1,4 @@
-use mathlib.Core.Path.{_≡_, refl, sym, ap, subst, _∙_}
+use mathlib.Core.Path.{sym, ap, subst, _∙_}
 use native.Mathlib.Omega.{arith}
 use Rattle.banks.specs.declared.answer.Turned.{Turned}
 use Rattle.banks.specs.declared.flat.roots.Roots.{Roots}
