@@ -18,7 +18,7 @@ use Rattle.engine.specs.declared.task.Phase.the-variants.{Unborn, Waiting, Rea
 use Rattle.engine.specs.declared.task.Work.{Work}
 use Rattle.engine.specs.declared.task.Work.the-variants.{Begun, Leaving}
 use Rattle.engine.specs.Tasks.{blank, no-pair, born?, held?, busy-by?, in-phase, come, final-task, root-task}
-use Rattle.engine.specs.Sound.{Sized, Given, Held, Under, Awaited, Paired, Ranged, Last, Handed}
+use Rattle.engine.specs.Sound.{Sized, Given, Held, Known, Awaited, Paired, Ranged, Last, Handed}
 use Rattle.engine.proofs.Options.{none-some, some-some}
 use Rattle.engine.proofs.Lists.{at-set, part-kept, at-replicate}
 
@@ -26,7 +26,7 @@ pub record Sound (ks : List Task) (qs : List Pair) (hs : List (Option ℕ)) (r :
   pub sized : Sized ks qs hs r
   pub given : Given ks r
   pub held : Held ks
-  pub under : Under ks r
+  pub known : Known ks r
   pub awaited : Awaited ks
   pub paired : Paired ks
   pub ranged : Ranged ks
@@ -38,7 +38,7 @@ sound e = record {
   sized = e .sized;
   given = e .given;
   held = e .held;
-  under = e .under;
+  known = e .known;
   awaited = e .awaited;
   paired = e .paired;
   ranged = e .ranged;
@@ -50,7 +50,7 @@ sound e = record {
 abbrev pub Owed : List Task → List Pair → List (Option ℕ) → ℕ → Type 0
 Owed ks qs hs r =
     Sized ks qs hs r
-    × (Given ks r × (Held ks × (Under ks r × (Awaited ks × (Paired ks × (Ranged ks × (Last ks × (Handed ks hs × Unit {0}))))))))
+    × (Given ks r × (Held ks × (Known ks r × (Awaited ks × (Paired ks × (Ranged ks × (Last ks × (Handed ks hs × Unit {0}))))))))
 
 -- of tables that are equal to sound ones
 pub owed : {ks ls : List Task} {qs ps : List Pair} {hs gs : List (Option ℕ)} {r : ℕ}
@@ -59,7 +59,7 @@ owed {ks} {ls} {qs} {ps} {hs} {gs} {r} tasks pairs hands s =
     subst (λ (x : List Task). Owed x ps gs r) (sym tasks)
     (subst (λ (x : List Pair). Owed ks x gs r) (sym pairs)
     (subst (λ (x : List (Option ℕ)). Owed ks qs x r) (sym hands)
-    (s .sized, (s .given, (s .held, (s .under, (s .awaited, (s .paired, (s .ranged, (s .last, (s .handed, tt)))))))))))
+    (s .sized, (s .given, (s .held, (s .known, (s .awaited, (s .paired, (s .ranged, (s .last, (s .handed, tt)))))))))))
 
 -- Phases
 
@@ -119,7 +119,7 @@ come-sound ks qs hs r n p s low holds hands =
           λ m h. ap isSome (finish m)
           ∙ at-set ks n new blank m (λ k. held? (k .phase) ≡ true → isSome (getD ks m blank .finish) ≡ true) here
           (λ e g. subst (λ (i : ℕ). isSome (getD ks i blank .finish) ≡ true) (sym e) (holds g)) (λ _. s .held m) h;
-      under = λ m f h. s .under m f (sym (finish m) ∙ h);
+      known = λ m f h. s .known m f (sym (finish m) ∙ h);
       awaited = λ m f h. ap isSome (tally f) ∙ s .awaited m f (sym (finish m) ∙ h);
       paired = λ m h. ap isSome (pair m) ∙ s .paired m (ap isSome (sym (finish m)) ∙ h);
       ranged = λ m q h. s .ranged m q (sym (pair m) ∙ h);
@@ -139,7 +139,7 @@ hand-sound ks qs hs r a o s low busy =
       sized = (s .sized .0, s .sized .1, length-set hs a o ∙ s .sized .2, s .sized .3);
       given = s .given;
       held = s .held;
-      under = s .under;
+      known = s .known;
       awaited = s .awaited;
       paired = s .paired;
       ranged = s .ranged;
@@ -155,7 +155,7 @@ pair-sound ks qs hs r q x s = record {
   sized = (s .sized .0, length-set qs q x ∙ s .sized .1, s .sized .2, s .sized .3);
   given = s .given;
   held = s .held;
-  under = s .under;
+  known = s .known;
   awaited = s .awaited;
   paired = s .paired;
   ranged = s .ranged;
@@ -172,7 +172,7 @@ fresh-sound =
       sized = (length-replicate 1024 blank, length-replicate 512 no-pair, length-replicate {A = Option ℕ} 16 None, omega arith);
       given = λ n h. absurd (both-ways false refl (ap (λ (k : Task). born? (k .phase)) (sym (task n)) ∙ h));
       held = λ n h. absurd (both-ways false refl (ap (λ (k : Task). held? (k .phase)) (sym (task n)) ∙ h));
-      under = λ n f h. absurd (none-some f (ap (λ (k : Task). k .finish) (sym (task n)) ∙ h));
+      known = λ n f h. absurd (none-some f (ap (λ (k : Task). k .finish) (sym (task n)) ∙ h));
       awaited = λ n f h. absurd (none-some f (ap (λ (k : Task). k .finish) (sym (task n)) ∙ h));
       paired = λ n h. absurd (both-ways false refl (ap (λ (k : Task). isSome (k .finish)) (sym (task n)) ∙ h));
       ranged = λ n q h. absurd (none-some q (ap (λ (k : Task). k .pair) (sym (task n)) ∙ h));
@@ -226,7 +226,7 @@ last-sound ks qs hs r a n f s low leaving under =
     part-kept (λ k. k .finish) ks n (in-phase (getD ks n blank) Done) blank n here refl ∙ under in
     let free : (b : ℕ) → getD (set hs a None) b None ≡ Some f → ⊥ =
     λ b h. both-ways _ (left .last f (left .awaited n f still)) (left .held f (busy-held b _ (left .handed b f h))) in
-    come-sound (come ks n Done) qs (set hs a None) r f Ready left (s .under n f under)
+    come-sound (come ks n Done) qs (set hs a None) r f Ready left (s .known n f under)
     (λ h. absurd (both-ways false refl h)) (λ b h. absurd (free b h))
 
 pub end-sound : (ks : List Task) (qs : List Pair) (hs : List (Option ℕ)) (r a n f : ℕ) (drained : Bool) → Sound ks qs hs r → a < 16
@@ -258,15 +258,15 @@ make-sound ks qs hs r t p x s few =
       held =
           λ m. at-new m (λ k. held? (k .phase) ≡ true → isSome (k .finish) ≡ true) (λ _ _. refl) (λ _ h. absurd (both-ways false refl h))
           (λ _. s .held m);
-      under =
+      known =
           λ m f. at-new m (λ k. k .finish ≡ Some f → f < 2 * (r + 1)) (λ _ h. omega (arith, some-some (2 * r) f h)) (λ _ h. absurd (none-some f h))
-          (λ _ h. omega (arith, s .under m f h));
+          (λ _ h. omega (arith, s .known m f h));
       awaited =
           λ m f. at-new m (λ k. k .finish ≡ Some f → isSome (getD new f blank .tally) ≡ true)
           (λ _ h. let e : f ≡ 2 * r = sym (some-some (2 * r) f h) in
           at-new f (λ k. isSome (k .tally) ≡ true) (λ g. absurd (omega (arith, e, g))) (λ _. refl) (λ other. absurd (other e)))
           (λ _ h. absurd (none-some f h))
-          (λ _ h. tallied f (s .under m f h) (s .awaited m f h));
+          (λ _ h. tallied f (s .known m f h) (s .awaited m f h));
       paired =
           λ m. at-new m (λ k. isSome (k .finish) ≡ true → isSome (k .pair) ≡ true) (λ _ _. refl) (λ _ h. h) (λ _. s .paired m);
       ranged =

@@ -2,7 +2,7 @@
 --     Sized tasks pairs hands rounds      how long they are
 --     Given tasks rounds                  the numbers of tasks that are born are given out
 --     Held tasks                          a task in hand or busy has a finish
---     Under tasks rounds, Awaited tasks  a finish is given out, and has a tally
+--     Known tasks rounds, Awaited tasks   a finish is given out, and has a tally
 --     Paired tasks, Ranged tasks          a task with a finish has a pair, and pairs are in range
 --     Last tasks                          a task with a tally has no finish
 --     Handed tasks hands                  the task in an agent's hand is busy with that agent
@@ -27,8 +27,8 @@ Given tasks rounds = (n : ℕ) → born? (getD tasks n blank .phase) ≡ true �
 abbrev pub Held : List Task → Type 0
 Held tasks = (n : ℕ) → held? (getD tasks n blank .phase) ≡ true → isSome (getD tasks n blank .finish) ≡ true
 
-abbrev pub Under : List Task → ℕ → Type 0
-Under tasks rounds = (n f : ℕ) → getD tasks n blank .finish ≡ Some f → f < 2 * rounds
+abbrev pub Known : List Task → ℕ → Type 0
+Known tasks rounds = (n f : ℕ) → getD tasks n blank .finish ≡ Some f → f < 2 * rounds
 
 abbrev pub Awaited : List Task → Type 0
 Awaited tasks = (n f : ℕ) → getD tasks n blank .finish ≡ Some f → isSome (getD tasks f blank .tally) ≡ true

@@ -1,4 +1,4 @@
-ghost use Rattle.engine.specs.Sound.{Sized, Given, Held, Under, Awaited, Paired, Ranged, Last, Handed};
+ghost use Rattle.engine.specs.Sound.{Sized, Given, Held, Known, Awaited, Paired, Ranged, Last, Handed};
 use crate::task::Pair;
 use crate::task::Task;
 
@@ -23,7 +23,7 @@ pub struct Engine<B> {
     ghost sized: { Sized tasks pairs hands rounds },
     ghost given: { Given tasks rounds },
     ghost held: { Held tasks },
-    ghost under: { Under tasks rounds },
+    ghost known: { Known tasks rounds },
     ghost awaited: { Awaited tasks },
     ghost paired: { Paired tasks },
     ghost ranged: { Ranged tasks },

@@ -16,6 +16,13 @@ use crate::table::note;
 use words::Kind;
 use words::Word;
 
+const TALLIES: u16 = 256;
+
+const AGENTS: u16 = 16;
+
+// So many receipts out and arriving agents take no other arrival.
+const CROWD: u32 = 2048;
+
 // The tables of the flat bank: the root of each tally, the errand of each agent, how many tallies are open.
 #[derive(Clone, Copy)]
 pub(crate) struct Roots {
@@ -29,7 +36,7 @@ impl Roots {
     pub(crate) fn may_open(&self) -> Result<(), BankFault>
         ensures { λ r. ⌜ r ≡ may-open (now (self .entry)) ⌝ }
     {
-        if self.opened < 256 {
+        if self.opened < TALLIES {
             Ok(())
         } else {
             Err(BankFault::Full)
@@ -40,7 +47,7 @@ impl Roots {
     fn free(&self, agent: u16) -> Result<(), BankFault>
         ensures { λ r. ⌜ r ≡ free (now (self .entry) .errands) agent ⌝ }
     {
-        if agent > 15 {
+        if agent >= AGENTS {
             return Err(BankFault::NoAgent);
         }
         let errand = self.errands[agent as usize];
@@ -94,7 +101,7 @@ impl Roots {
         if place != 0 {
             return Err(BankFault::NoPlace);
         }
-        if self.crowd(tally) >= 2048 {
+        if self.crowd(tally) >= CROWD {
             return Err(BankFault::Crowded);
         }
         Ok(())
@@ -124,7 +131,7 @@ impl Roots {
     pub(crate) fn may_turn(&self, agent: u16) -> Result<(), BankFault>
         ensures { λ r. ⌜ r ≡ may-turn (now (self .entry)) agent ⌝ }
     {
-        if agent > 15 {
+        if agent >= AGENTS {
             return Err(BankFault::NoAgent);
         }
         let errand = self.errands[agent as usize];

@@ -10,7 +10,7 @@ end-requires g c κs =
     let under = ap (λ (k : Task). k .finish) (sym (c .task .ensures)) ∙ c .in-Some .is in (
       busy-low (e .tasks) (e .pairs) (e .hands) (e .rounds) (c .args .agent) (c .args .n) _ (sound e) (c .pre .at .1),
       (
-        omega (arith, e .sized, e .under (c .args .n) (c .in-Some .finish) under),
+        omega (arith, e .sized, e .known (c .args .n) (c .in-Some .finish) under),
         omega (arith, e .sized, c .pre .agent),
       ),
     )
