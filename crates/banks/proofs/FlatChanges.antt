@@ -16,7 +16,7 @@ use Rattle.banks.specs.FlatTables.{opened-root, doing-of, departs, comers}
 use Rattle.banks.specs.Meaning.{Doing, idle, arrives}
 use Rattle.banks.specs.Tables.{no-node, at, job, with-out}
 use Rattle.banks.proofs.Counting.{one-same, one-other, at-set, but-set, sum-none, true-false}
-use Rattle.banks.proofs.FlatCounts.{idle-by, comers-none, goers-none}
+use Rattle.banks.proofs.FlatCounts.{idle-by, none-from, arrives-there, departs-there}
 use Rattle.banks.proofs.FlatKept.{Kept, Change}
 
 -- a new bank
@@ -69,8 +69,8 @@ module _ (ns : List Node) (es : List Errand) (o : ℕ) (k : Kept ns es o) where
     other-errands = (λ b n. refl);
     comes-here = (λ u n. refl);
     goes-here = (λ u n. refl);
-    adds = rw here (let old = k .added o in let out = k .closed o (omega arith) in let none = goers-none es o o (k .placed .0) (omega arith) in omega (arith, old, out, none));
-    few = rw here (let none = comers-none es o o (k .placed .0) (omega arith) in omega (arith, none));
+    adds = rw here (let old = k .added o in let out = k .closed o (omega arith) in let none = none-from departs departs-there es o o (k .placed .0) (omega arith) in omega (arith, old, out, none));
+    few = rw here (let none = none-from arrives arrives-there es o o (k .placed .0) (omega arith) in omega (arith, none));
     root = rw here refl;
     whole = rw here refl;
     tally = (λ h. let below = k .placed .0 0 h in omega (arith, below));

@@ -12,7 +12,7 @@ use Rattle.banks.specs.declared.errand.Phase.{Phase}
 use Rattle.banks.specs.declared.errand.Phase.the-variants.{Idle, Read, Raise, Open, Settle, Look, Lower}
 use Rattle.banks.specs.Counting.{one, sum}
 use Rattle.banks.specs.Errands.{no-errand, idles, comes, comes-by}
-use Rattle.banks.specs.FlatTables.{doing-by, doing-of, departs, comers, goers}
+use Rattle.banks.specs.FlatTables.{doing-by, doing-of, departs, goers}
 use Rattle.banks.specs.Meaning.{Doing, idle, arriving, departing, arrives, works}
 use Rattle.banks.specs.Tables.{job}
 use Rattle.banks.proofs.Counting.{one-other, sum-more, sum-none, sum-few, false-true}
@@ -72,15 +72,11 @@ departs-there Look k t n = one-other k t (n refl)
 departs-there Lower k t n = one-other k t (n refl)
 
 -- where all errands are at tallies below o, none counts from o on
-pub comers-none : (es : List Errand) (o t : ℕ) → ((a : ℕ) → idles (job es a .phase) ≡ false → job es a .tally < o) → o ≤ t → comers es t ≡ 0
-comers-none es o t below l =
-    sum-none (λ a. arrives (doing-of (job es a)) t) 16
-    (λ a m. arrives-there (job es a .phase) (job es a .tally) t (λ h e. let b = below a h in omega (arith, b, e, l)))
-
-pub goers-none : (es : List Errand) (o t : ℕ) → ((a : ℕ) → idles (job es a .phase) ≡ false → job es a .tally < o) → o ≤ t → goers es t ≡ 0
-goers-none es o t below l =
-    sum-none (λ a. departs (doing-of (job es a)) t) 16
-    (λ a m. departs-there (job es a .phase) (job es a .tally) t (λ h e. let b = below a h in omega (arith, b, e, l)))
+pub none-from : (F : Doing → ℕ → ℕ) → ((p : Phase) (k t : ℕ) → (idles p ≡ false → k ≡ t → ⊥) → F (doing-by p k) t ≡ 0)
+    → (es : List Errand) (o t : ℕ) → ((a : ℕ) → idles (job es a .phase) ≡ false → job es a .tally < o) → o ≤ t → sum (λ a. F (doing-of (job es a)) t) 16 ≡ 0
+none-from F there es o t below l =
+    sum-none (λ a. F (doing-of (job es a)) t) 16
+    (λ a m. there (job es a .phase) (job es a .tally) t (λ h e. let b = below a h in omega (arith, b, e, l)))
 
 -- an idle agent does nothing
 pub idle-by : (p : Phase) (k : ℕ) → idles p ≡ true → doing-by p k ≡ idle
