@@ -1,4 +1,6 @@
 // Tally banks: what a bank means, and the banks that show that meaning.
+#![tactic(auto)]
+
 pub mod answer;
 pub mod bank;
 mod errand;

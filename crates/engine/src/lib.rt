@@ -1,4 +1,6 @@
 // The task engine over any bank: tasks, the calls on them, and runs of calls.
+#![tactic(auto)]
+
 pub mod call;
 pub mod engine;
 pub mod fault;

@@ -1,4 +1,6 @@
 // Trees of counters in one table: the flat, the fixed and the growing bank over one machine.
+#![tactic(auto)]
+
 mod errand;
 pub mod fixed;
 pub mod flat;

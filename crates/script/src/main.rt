@@ -1,4 +1,6 @@
 // Runs a script of calls: reads it from standard input, and prints what is told of each line.
+#![tactic(auto)]
+
 mod cut;
 mod fault;
 mod input;
