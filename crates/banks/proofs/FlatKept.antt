@@ -25,13 +25,13 @@ KeptOf T = Kept T.nodes T.errands T.opened
 
 -- the same as the bank's ghost fields have it
 abbrev pub Ghost : List Node → List Errand → ℕ → Type 0
-Ghost ns es o = Sized ns es o × (Added ns es × (Few ns es × (Rooted ns × (Closed ns o × (Placed es o × (Alone es × Unit {0}))))))
+Ghost ns es o = record { sized : Sized ns es o; added : Added ns es; few : Few ns es; rooted : Rooted ns; closed : Closed ns o; placed : Placed es o; alone : Alone es }
 
 -- of the tables U, which are V
 pub ghost : (U V : Roots) → U ≡ V → KeptOf V → Ghost U.nodes U.errands U.opened
 ghost U V e k =
     subst (λ (W : Roots). Ghost W.nodes W.errands W.opened) (sym e)
-    (k.sized, (k.added, (k.few, (k.rooted, (k.closed, (k.placed, (k.alone, tt)))))))
+    (record { sized = k.sized; added = k.added; few = k.few; rooted = k.rooted; closed = k.closed; placed = k.placed; alone = k.alone })
 
 -- one agent's errand is another: a sum over the agents moves by it
 pub moved : (F : Doing → ℕ) (es fs : List Errand) (a : ℕ) → a < 16 → ((b : ℕ) → (a ≡ b → ⊥) → job fs b ≡ job es b)

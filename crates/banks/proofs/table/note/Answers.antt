@@ -4,8 +4,8 @@ use Rattle.banks.specs.declared.node.Node.{Node}
 use Rattle.banks.specs.Tables.{no_node}
 use Rattle.banks.proofs.table.note.Goals as goal
 
-pub overflow-add-nodes : goal.overflow-add-nodes
-overflow-add-nodes c =
+pub overflow_add-nodes : goal.overflow_add-nodes
+overflow_add-nodes c =
     let x = c.in-Arrived.node in
     let same = get_or_default c.args.nodes.now x c.index-nodes-node.result no_node (c.requires.node x c.in-Arrived.is) in
     omega (arith, c.requires.few x c.in-Arrived.is, ap (λ (n : Node). n.out) same)

@@ -10,7 +10,7 @@ loop-rest-smaller c = cut_shorter c.loop-rest.rest.now c.cut.result.0.now c.cut.
 pub loop-rest-preserved : goal.loop-rest-preserved
 loop-rest-preserved c =
     upto_more c.args.text.now (vec_items c.loop-rest.read) (vec_items c.push.new.self) c.loop-rest.rest.now c.cut.result.0.now c.cut.result.1.now c.parse.result
-    c.loop-rest.invariant c.cut.ensures c.parse.ensures (pushed (c.parse.result ∷ []) refl c.in-ok-push.was c.push.ensures.items)
+    c.loop-rest.invariant c.cut.ensures c.parse.ensures (pushed (c.parse.result ∷ []) refl c.in_ok-push.was c.push.ensures.items)
 
 pub returns : goal.returns
 returns c =

@@ -5,16 +5,16 @@ use Rattle.script.proofs.Lists.{all_whole}
 use Rattle.script.proofs.Numerals.{past_at, past_end}
 use Rattle.script.proofs.number.digits.Goals as goal
 
-pub returns-then-not-is-ascii-digit : goal.returns-then-not-is-ascii-digit
-returns-then-not-is-ascii-digit c = record {
+pub returns-then-not-is_ascii_digit : goal.returns-then-not-is_ascii_digit
+returns-then-not-is_ascii_digit c = record {
   within = omega arith;
   all = c.loop-i.invariant;
   past = past_at c.args.s.now c.loop-i.i c.loop-i-test.true
-      (λ d. ⊎_elim (λ l. omega (arith, d.0)) (λ l. omega (arith, d.1)) c.if-not-is-ascii-digit.ensures.cases);
+      (λ d. ⊎_elim (λ l. omega (arith, d.0)) (λ l. omega (arith, d.1)) c.if-not-is_ascii_digit.ensures.cases);
 }
 
 pub loop-i-preserved : goal.loop-i-preserved
-loop-i-preserved c = All-more IsAsciiDigit c.args.s.now c.loop-i.i 0 c.loop-i-test.true c.loop-i.invariant c.if-not-is-ascii-digit.ensures.cases
+loop-i-preserved c = All-more IsAsciiDigit c.args.s.now c.loop-i.i 0 c.loop-i-test.true c.loop-i.invariant c.if-not-is_ascii_digit.ensures.cases
 
 pub returns : goal.returns
 returns c = record {

@@ -6,11 +6,11 @@ use Rattle.script.proofs.Lists.{placed_all}
 use Rattle.script.proofs.Counts.{Sofar, sofar_more, sofar_all, sofar_stuck, sofar_left}
 use Rattle.script.proofs.number.numbers.Goals as goal
 
-pub returns-in-default : goal.returns-in-default
-returns-in-default g c =
+pub returns-in_default : goal.returns-in_default
+returns-in_default g c =
     let inv = c.loop-i.invariant in (
       refl,
-      λ ns long h. sofar_stuck c.args.s.now (take c.loop-i.i c.loop-i.found) c.loop-i.rest.now ns inv.0 c.in-default.ensures
+      λ ns long h. sofar_stuck c.args.s.now (take c.loop-i.i c.loop-i.found) c.loop-i.rest.now ns inv.0 c.in_default.ensures
           (omega (arith, length-take-le c.loop-i.i c.loop-i.found (omega (arith, inv.1)), inv.1)) h,
     )
 
@@ -25,20 +25,20 @@ loop-i-preserved g c =
       length-set found i n ∙ inv.1,
     )
 
-pub returns-then-is-empty : goal.returns-then-is-empty
-returns-then-is-empty g c =
+pub returns-then-is_empty : goal.returns-then-is_empty
+returns-then-is_empty g c =
     let inv = c.loop-i.invariant in
     let found = c.loop-i.found in
     subst (Numbers c.args.s.now) (take_all c.loop-i.i found (omega (arith, inv.1)) ∙ sym (placed_all found 0 g.row.N (omega (arith, inv.1))))
-    (sofar_all c.args.s.now (take c.loop-i.i found) c.loop-i.rest.now inv.0 (true-eqb _ 0 c.if-is-empty.ensures))
+    (sofar_all c.args.s.now (take c.loop-i.i found) c.loop-i.rest.now inv.0 (true-eqb _ 0 c.if-is_empty.ensures))
 
-pub returns-else-is-empty : goal.returns-else-is-empty
-returns-else-is-empty g c =
+pub returns-else-is_empty : goal.returns-else-is_empty
+returns-else-is_empty g c =
     let inv = c.loop-i.invariant in
     let found = c.loop-i.found in (
       refl,
       λ ns long h. sofar_left c.args.s.now (take c.loop-i.i found) c.loop-i.rest.now ns inv.0
-          (omega (arith, false-eqb _ 0 c.if-is-empty.ensures))
+          (omega (arith, false-eqb _ 0 c.if-is_empty.ensures))
           (ap length (take_all c.loop-i.i found (omega (arith, inv.1))) ∙ inv.1 ∙ sym long) h,
     )
 

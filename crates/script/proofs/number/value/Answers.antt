@@ -6,16 +6,16 @@ use Rattle.script.specs.Spelling.{value_on}
 use Rattle.script.proofs.Numerals.{before_fifth, value_on_push, written}
 use Rattle.script.proofs.number.value.Goals as goal
 
-pub overflow-mul-v : goal.overflow-mul-v
-overflow-mul-v c =
+pub overflow_mul-v : goal.overflow_mul-v
+overflow_mul-v c =
     let small : c.loop-d.v < 10000 = omega (arith, c.loop-d.invariant, before_fifth c.args.ds.now c.loop-d.d-index c.requires (omega arith)) in
     search rules
 
-pub overflow-sub-d : goal.overflow-sub-d
-overflow-sub-d c = (All-get_or IsAsciiDigit c.args.ds.now c.loop-d.d-index 0 c.loop-d-test.true c.requires).0
+pub overflow_sub-d : goal.overflow_sub-d
+overflow_sub-d c = (All-get_or IsAsciiDigit c.args.ds.now c.loop-d.d-index 0 c.loop-d-test.true c.requires).0
 
-pub overflow-add-v : goal.overflow-add-v
-overflow-add-v c =
+pub overflow_add-v : goal.overflow_add-v
+overflow_add-v c =
     let small : c.loop-d.v < 10000 = omega (arith, c.loop-d.invariant, before_fifth c.args.ds.now c.loop-d.d-index c.requires (omega arith)) in
     let digit : get_or c.args.ds.now c.loop-d.d-index 0 ≤ 57 = (All-get_or IsAsciiDigit c.args.ds.now c.loop-d.d-index 0 c.loop-d-test.true c.requires).1 in
     search rules
@@ -30,5 +30,5 @@ loop-d-preserved c =
 pub returns : goal.returns
 returns c =
     let ds = c.args.ds.now in
-    written ds c.loop-d.v c.try-from.result c.ok.result c.requires (search rules) (omega arith)
-    (c.loop-d.invariant ∙ ap (value_on 0) (take_all c.loop-d.d-index ds c.loop-d-test.false)) c.try-from.ensures c.ok.ensures.value
+    written ds c.loop-d.v c.try_from.result c.ok.result c.requires (search rules) (omega arith)
+    (c.loop-d.invariant ∙ ap (value_on 0) (take_all c.loop-d.d-index ds c.loop-d-test.false)) c.try_from.ensures c.ok.ensures.value

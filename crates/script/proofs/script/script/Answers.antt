@@ -8,10 +8,10 @@ use Rattle.script.proofs.Cuts.{cut_once}
 use Rattle.script.proofs.Openings.{no_line}
 use Rattle.script.proofs.script.script.Goals as goal
 
-pub returns-then-is-empty : goal.returns-then-is-empty
-returns-then-is-empty c =
-    IfOk-weaker c.refused-then-is-empty.result (λ s. string_bytes s ≡ row (refusal_text 1 Unknown)) (λ s. Printed c.args.input.now (string_bytes s))
-    (λ s e. inr (inl (search rules, no_line c.args.input.now (search rules), e))) c.refused-then-is-empty.ensures
+pub returns-then-is_empty : goal.returns-then-is_empty
+returns-then-is_empty c =
+    IfOk-weaker c.refused-then-is_empty.result (λ s. string_bytes s ≡ row (refusal_text 1 Unknown)) (λ s. Printed c.args.input.now (string_bytes s))
+    (λ s e. inr (inl (search rules, no_line c.args.input.now (search rules), e))) c.refused-then-is_empty.ensures
 
 pub returns-in-None : goal.returns-in-None
 returns-in-None c =

@@ -5,7 +5,7 @@ use Rattle.script.specs.Told.{calls_in}
 use Rattle.script.proofs.Lists.{finish}
 use Rattle.script.proofs.Pages.{call_more, call_none}
 use Rattle.script.proofs.session.calls_in.Goals as goal
-use Rattle.script.proofs.session.calls_in.Goals.{in-Ok+in-ok-push, in-default}
+use Rattle.script.proofs.session.calls_in.Goals.{in-Ok+in_ok-push, in_default}
 
 pub loop-line-preserved : goal.loop-line-preserved
 loop-line-preserved c =
@@ -13,9 +13,9 @@ loop-line-preserved c =
     let i = c.loop-line.line-index in
     let got = vec_items c.loop-line.calls in
     elim c.match-line.branch [
-      | in-Ok+in-ok-push w ↦ call_more lines i _ c.loop-line-test.true w.in-Ok.call got (vec_items c.match-line.calls) c.loop-line.invariant w.in-Ok.is
-          (ap vec_items w.calls-is ∙ pushed (w.in-Ok.call ∷ []) refl w.in-ok-push.was w.push.ensures.items)
-      | in-default w ↦ rw w.calls-is (call_none lines i _ c.loop-line-test.true w.in-default.field-0 got c.loop-line.invariant w.in-default.is)
+      | in-Ok+in_ok-push w ↦ call_more lines i _ c.loop-line-test.true w.in-Ok.call got (vec_items c.match-line.calls) c.loop-line.invariant w.in-Ok.is
+          (ap vec_items w.calls-is ∙ pushed (w.in-Ok.call ∷ []) refl w.in_ok-push.was w.push.ensures.items)
+      | in_default w ↦ rw w.calls-is (call_none lines i _ c.loop-line-test.true w.in_default.field-0 got c.loop-line.invariant w.in_default.is)
     ]
 
 pub returns : goal.returns

@@ -15,8 +15,8 @@ claim-requires g c =
       omega (arith, low, e.sized),
     )
 
-pub invariant-of-self-2 : goal.invariant-of-self-2
-invariant-of-self-2 g c =
+pub invariant_of-self-2 : goal.invariant_of-self-2
+invariant_of-self-2 g c =
     let e = c.args.self.now in
     let f = c.claim.ensures in
     owed f.tasks f.pairs refl

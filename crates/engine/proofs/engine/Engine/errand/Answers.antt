@@ -6,7 +6,7 @@ use Rattle.engine.proofs.engine.Engine.errand.Goals as goal
 pub unreachable-requires : goal.unreachable-requires
 unreachable-requires g c =
     let busy = busy_is c.args.agent _ (c.args.self.now.handed c.args.agent c.in-Some.n c.in-Some.is) in
-    c.in-default-phase.not-Busy c.args.agent busy.0 (ap (λ (k : Task). k.phase) c.task.ensures ∙ busy.1)
+    c.in_default-phase.not-Busy c.args.agent busy.0 (ap (λ (k : Task). k.phase) c.task.ensures ∙ busy.1)
 
 pub returns : goal.returns
 returns g c =

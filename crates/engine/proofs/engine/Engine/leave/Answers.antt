@@ -14,8 +14,8 @@ end-requires g c =
       ),
     )
 
-pub invariant-of-self-in-Departed : goal.invariant-of-self-in-Departed
-invariant-of-self-in-Departed g c =
+pub invariant_of-self-in-Departed : goal.invariant_of-self-in-Departed
+invariant_of-self-in-Departed g c =
     let e = c.args.self.now in
     let under = ap (λ (k : Task). k.finish) (sym c.task.ensures) ∙ c.in-Some.is in
     owed c.end.ensures.tasks refl c.end.ensures.hands

@@ -11,8 +11,8 @@ use Rattle.forest.proofs.PlansFirst.{first_idle}
 use Rattle.forest.proofs.PlansFixed.{fixed_first_sound}
 use Rattle.forest.proofs.fixed.Fixed.new.Goals as goal
 
-pub invariant-of-result : goal.invariant-of-result
-invariant-of-result c =
+pub invariant_of-result : goal.invariant_of-result
+invariant_of-result c =
     let ns = c.lay.new.nodes in
     (∣ subst (λ (l : Ledger). Sound fixed_layout (fixed_tables ns l)) (sym c.new.ensures) (fixed_first_sound ns c.lay.ensures) ∣₁, tt)
 

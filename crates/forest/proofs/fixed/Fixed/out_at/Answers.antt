@@ -16,11 +16,11 @@ few b t l = tally_few fixed_layout fixed_lays (fixed_of b) b.sound t l
 there : (b : Fixed) (t p : ℕ) → t < b.ledger.opened → p < 15 → 15 * t + p < length b.nodes
 there b t p l k = place_there fixed_layout fixed_lays (fixed_of b) b.sound t l p (lt-ltb p 15 k)
 
-pub overflow-mul-node : goal.overflow-mul-node
-overflow-mul-node c = omega (arith, few c.args.self.now c.args.tally c.requires)
+pub overflow_mul-node : goal.overflow_mul-node
+overflow_mul-node c = omega (arith, few c.args.self.now c.args.tally c.requires)
 
-pub overflow-add-node : goal.overflow-add-node
-overflow-add-node c = omega (arith, few c.args.self.now c.args.tally c.requires)
+pub overflow_add-node : goal.overflow_add-node
+overflow_add-node c = omega (arith, few c.args.self.now c.args.tally c.requires)
 
 pub listed : goal.listed
 listed c = there c.args.self.now c.args.tally c.args.place c.requires (omega arith)

@@ -12,4 +12,4 @@ roomy-requires c =
     let b = c.args.self.now in
     let t = c.args.tally in
     tally_few flat_layout flat_lays (flat_of b) b.sound t
-    (reads_so flat_layout flat_lays (flat_of b) t (told_ok (shut b.ledger t) _ (sym c.shut.ensures ∙ c.in-ok-shut.was)))
+    (reads_so flat_layout flat_lays (flat_of b) t (told_ok (shut b.ledger t) _ (sym c.shut.ensures ∙ c.in_ok-shut.was)))

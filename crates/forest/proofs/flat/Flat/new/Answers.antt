@@ -9,8 +9,8 @@ use Rattle.forest.proofs.Plans.{flat_lays}
 use Rattle.forest.proofs.PlansFirst.{flat_first_sound, first_idle}
 use Rattle.forest.proofs.flat.Flat.new.Goals as goal
 
-pub invariant-of-result : goal.invariant-of-result
-invariant-of-result c = (∣ subst (Sound flat_layout) (sym (λ i. flat_tables (c.blanks.ensures i) (c.new.ensures i))) flat_first_sound ∣₁, tt)
+pub invariant_of-result : goal.invariant_of-result
+invariant_of-result c = (∣ subst (Sound flat_layout) (sym (λ i. flat_tables (c.blanks.ensures i) (c.new.ensures i))) flat_first_sound ∣₁, tt)
 
 pub returns : goal.returns
 returns c =

@@ -10,8 +10,8 @@ use Rattle.forest.proofs.Plans.{growing_lays}
 use Rattle.forest.proofs.PlansFirst.{growing_first_sound, first_idle}
 use Rattle.forest.proofs.growing.Growing.new.Goals as goal
 
-pub invariant-of-result : goal.invariant-of-result
-invariant-of-result c =
+pub invariant_of-result : goal.invariant_of-result
+invariant_of-result c =
     let N = length c.args.nodes.now in
     let T = c.min-tallies.result in
     let size : length c.blank.new.nodes ≡ N = ap length c.blank.ensures ∙ length-replicate N no_node in

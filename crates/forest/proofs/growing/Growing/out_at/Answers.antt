@@ -14,14 +14,14 @@ there : (b : Growing) (t p : ℕ) → t < b.ledger.opened → in_tree (growing_o
 there b t p l e = let n = place_there growing_layout growing_lays (growing_of b) b.sound t l p e in omega (arith, n)
 
 pub bounds-self-place : goal.bounds-self-place
-bounds-self-place c = there c.args.self.now c.args.tally c.args.place c.requires (sym c.has-place.ensures ∙ c.if-not-has-place.false)
+bounds-self-place c = there c.args.self.now c.args.tally c.args.place c.requires (sym c.has_place.ensures ∙ c.if-not-has_place.false)
 
 pub returns : goal.returns
 returns c =
     let b = c.args.self.now in
     let t = c.args.tally in
     let p = c.args.place in
-    let yes_place : in_tree (growing_of b) t p ≡ true = sym c.has-place.ensures ∙ c.if-not-has-place.false in
+    let yes_place : in_tree (growing_of b) t p ≡ true = sym c.has_place.ensures ∙ c.if-not-has_place.false in
     let base : p ≡ 0 + p = omega arith in
     ap (λ (n : Node). n.out) (get_or_default b.nodes.now p c.index-self-place.result no_node (there b t p c.requires yes_place))
     ∙ ap (λ (i : ℕ). (at b.nodes.now i).out) base ∙ sym (cond-true (in_tree (growing_of b) t p) (at b.nodes.now (0 + p)).out 0 yes_place)

@@ -9,17 +9,17 @@ use Rattle.banks.proofs.FlatRefusals.{told_ok, opens_low}
 use Rattle.banks.proofs.FlatShows.{did, open_shows}
 use Rattle.banks.proofs.flat.calls.FlatBank.open.Goals as goal
 
-pub invariant-of-self : goal.invariant-of-self
-invariant-of-self c =
+pub invariant_of-self : goal.invariant_of-self
+invariant_of-self c =
     let b = c.args.self.now in
-    let free = told_ok (may_open b.roots) _ (sym c.may-open.ensures ∙ c.in-ok-may-open.was) in
+    let free = told_ok (may_open b.roots) _ (sym c.may_open.ensures ∙ c.in_ok-may_open.was) in
     ghost c.open-tally.new.self (opens b.roots) c.open-tally.ensures.after (kept_open b.roots (kept b) (opens_low b.roots free))
 
 pub returns : goal.returns
 returns c =
     let T = c.args.self.now.roots in
     let U = c.open-tally.new.self in
-    let ok = sym c.may-open.ensures ∙ c.in-ok-may-open.was in
+    let ok = sym c.may_open.ensures ∙ c.in_ok-may_open.was in
     let value = c.open-tally.ensures.value in
     let after = c.open-tally.ensures.after in
     record {

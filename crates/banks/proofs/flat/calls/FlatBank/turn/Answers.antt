@@ -19,7 +19,7 @@ turn-requires c =
     let T = b.roots in
     let a = c.args.agent in
     let k = kept b in
-    let so = turns_so T a (told_ok (may_turn T a) _ (sym c.may-turn.ensures ∙ c.in-ok-may-turn.was)) in
+    let so = turns_so T a (told_ok (may_turn T a) _ (sym c.may_turn.ensures ∙ c.in_ok-may_turn.was)) in
     let low = open_here T.nodes T.errands T.opened k a so.0 so.1 in
     let out = outcome_at T.nodes T.errands T.opened k a so.0 so.1 in
     let r = turn_at T.nodes (job T.errands a) in
@@ -34,11 +34,11 @@ turn-requires c =
       room = λ x e. rw (here x e) (room T.nodes T.errands T.opened k a so.0 so.1 r.write);
     }
 
-pub invariant-of-self : goal.invariant-of-self
-invariant-of-self c =
+pub invariant_of-self : goal.invariant_of-self
+invariant_of-self c =
     let b = c.args.self.now in
     let a = c.args.agent in
-    let ok = sym c.may-turn.ensures ∙ c.in-ok-may-turn.was in
+    let ok = sym c.may_turn.ensures ∙ c.in_ok-may_turn.was in
     let so = turns_so b.roots a (told_ok (may_turn b.roots a) _ ok) in
     ghost c.turn.new.self (turns b.roots a) c.turn.ensures.after (kept_turn b.roots (kept b) a so.0 so.1)
 
@@ -47,7 +47,7 @@ returns c =
     let T = c.args.self.now.roots in
     let U = c.turn.new.self in
     let a = c.args.agent in
-    let ok = sym c.may-turn.ensures ∙ c.in-ok-may-turn.was in
+    let ok = sym c.may_turn.ensures ∙ c.in_ok-may_turn.was in
     record {
       exact = did turned (may_turn T a) _ (heard_of T a) c.turn.result T U (turns T a) ok c.turn.ensures.value c.turn.ensures.after;
       shows =

@@ -11,12 +11,12 @@ use Rattle.forest.proofs.Refused.{told_ok, arrives_so}
 use Rattle.forest.proofs.Sizes.{tally_few, load_few}
 use Rattle.forest.proofs.fixed.calls.FixedBank.arrive.Goals as goal
 
-pub returns-in-err-may-arrive : goal.returns-in-err-may-arrive
-returns-in-err-may-arrive c =
+pub returns-in_err-may_arrive : goal.returns-in_err-may_arrive
+returns-in_err-may_arrive c =
     let b = c.args.self.now in
-    let back = err_from_is_err_and c.from-residual.result c.from-residual.ensures.1 in
-    let no = arrive_not fixed_layout fixed_lays (fixed_of b) b.sound c.args.agent c.args.tally c.args.place c.args.-side c.args.-coin c.in-err-may-arrive.field-0.0
-    (sym c.may-arrive.ensures ∙ c.in-err-may-arrive.was) in
+    let back = err_from_is_err_and c.from_residual.result c.from_residual.ensures.1 in
+    let no = arrive_not fixed_layout fixed_lays (fixed_of b) b.sound c.args.agent c.args.tally c.args.place c.args.-side c.args.-coin c.in_err-may_arrive.field-0.0
+    (sym c.may_arrive.ensures ∙ c.in_err-may_arrive.was) in
     rw (back.1, back.2) (record { exact = no.0; shows = (no.1, refl) })
 
 pub leaf-node-requires : goal.leaf-node-requires
@@ -25,7 +25,7 @@ leaf-node-requires c =
     let a = c.args.agent in
     let t = c.args.tally in
     let p = c.args.place in
-    let so = arrives_so fixed_layout fixed_lays (fixed_of b) a t p (told_ok (may_arrive fixed_layout (fixed_of b) a t p) _ (sym c.may-arrive.ensures ∙ c.in-ok-may-arrive.was)) in
+    let so = arrives_so fixed_layout fixed_lays (fixed_of b) a t p (told_ok (may_arrive fixed_layout (fixed_of b) a t p) _ (sym c.may_arrive.ensures ∙ c.in_ok-may_arrive.was)) in
     tally_few fixed_layout fixed_lays (fixed_of b) b.sound t so.here
 
 pub send-requires : goal.send-requires
@@ -34,15 +34,15 @@ send-requires c =
     let a = c.args.agent in
     let t = c.args.tally in
     let p = c.args.place in
-    let so = arrives_so fixed_layout fixed_lays (fixed_of b) a t p (told_ok (may_arrive fixed_layout (fixed_of b) a t p) _ (sym c.may-arrive.ensures ∙ c.in-ok-may-arrive.was)) in
+    let so = arrives_so fixed_layout fixed_lays (fixed_of b) a t p (told_ok (may_arrive fixed_layout (fixed_of b) a t p) _ (sym c.may_arrive.ensures ∙ c.in_ok-may_arrive.was)) in
     record { agent = so.agent; tally = tally_few fixed_layout fixed_lays (fixed_of b) b.sound t so.here; room = load_few fixed_layout fixed_lays (fixed_of b) b.sound t so.here }
 
-pub invariant-of-self : goal.invariant-of-self
-invariant-of-self c =
+pub invariant_of-self : goal.invariant_of-self
+invariant_of-self c =
     let b = c.args.self.now in
     let a = c.args.agent in
     let t = c.args.tally in
-    let ok = sym c.may-arrive.ensures ∙ c.in-ok-may-arrive.was in
+    let ok = sym c.may_arrive.ensures ∙ c.in_ok-may_arrive.was in
     let path = c.send.ensures ∙ ap (sends b.ledger a t) (c.arriving.ensures ∙ ap (λ (x : ℕ). comer t x (0, 0)) c.leaf-node.ensures) in (
       (arrive_answered fixed_layout fixed_lays (fixed_of b) b.sound (fixed_tables b.nodes c.send.new.self) a t c.args.place c.args.-side c.args.-coin _ ok
           (λ i. fixed_tables b.nodes (path i))).kept,
@@ -54,7 +54,7 @@ returns c =
     let b = c.args.self.now in
     let a = c.args.agent in
     let t = c.args.tally in
-    let ok = sym c.may-arrive.ensures ∙ c.in-ok-may-arrive.was in
+    let ok = sym c.may_arrive.ensures ∙ c.in_ok-may_arrive.was in
     let path = c.send.ensures ∙ ap (sends b.ledger a t) (c.arriving.ensures ∙ ap (λ (x : ℕ). comer t x (0, 0)) c.leaf-node.ensures) in
     let done = arrive_answered fixed_layout fixed_lays (fixed_of b) b.sound (fixed_tables b.nodes c.send.new.self) a t c.args.place c.args.-side c.args.-coin _ ok
     (λ i. fixed_tables b.nodes (path i)) in

@@ -18,30 +18,30 @@ module _ (b : Fixed) (a t p : ℕ) (u : Unit {0}) (ok : may_depart fixed_layout 
   few : (t < 256) × (p < 15)
   few = (tally_few fixed_layout fixed_lays (fixed_of b) b.sound t so.here, ltb-true p 15 so.place)
 
-pub overflow-mul-tally : goal.overflow-mul-tally
-overflow-mul-tally c = omega (arith, few c.args.self.now c.args.agent c.args.tally c.args.place _ (sym c.may-depart.ensures ∙ c.in-ok-may-depart.was))
+pub overflow_mul-tally : goal.overflow_mul-tally
+overflow_mul-tally c = omega (arith, few c.args.self.now c.args.agent c.args.tally c.args.place _ (sym c.may_depart.ensures ∙ c.in_ok-may_depart.was))
 
-pub overflow-add-tally : goal.overflow-add-tally
-overflow-add-tally c = omega (arith, few c.args.self.now c.args.agent c.args.tally c.args.place _ (sym c.may-depart.ensures ∙ c.in-ok-may-depart.was))
+pub overflow_add-tally : goal.overflow_add-tally
+overflow_add-tally c = omega (arith, few c.args.self.now c.args.agent c.args.tally c.args.place _ (sym c.may_depart.ensures ∙ c.in_ok-may_depart.was))
 
 pub leave-requires : goal.leave-requires
 leave-requires c =
     let b = c.args.self.now in
     let t = c.args.tally in
-    let s = so b c.args.agent t c.args.place _ (sym c.may-depart.ensures ∙ c.in-ok-may-depart.was) in
+    let s = so b c.args.agent t c.args.place _ (sym c.may_depart.ensures ∙ c.in_ok-may_depart.was) in
     record {
       agent = s.agent;
       tally = tally_few fixed_layout fixed_lays (fixed_of b) b.sound t s.here;
       node = omega (arith, place_there fixed_layout fixed_lays (fixed_of b) b.sound t s.here c.args.place s.place);
     }
 
-pub invariant-of-self : goal.invariant-of-self
-invariant-of-self c =
+pub invariant_of-self : goal.invariant_of-self
+invariant_of-self c =
     let b = c.args.self.now in
     let a = c.args.agent in
     let t = c.args.tally in
     let p = c.args.place in
-    let ok = sym c.may-depart.ensures ∙ c.in-ok-may-depart.was in
+    let ok = sym c.may_depart.ensures ∙ c.in_ok-may_depart.was in
     let C = fixed_tables c.leave.new.nodes c.leave.new.ledger in
     let path : C ≡ leaves (fixed_of b) a t (15 * t + p) = (λ i. fixed_tables (c.leave.ensures.nodes i) (c.leave.ensures.ledger i)) in
     ((depart_answered fixed_layout fixed_lays (fixed_of b) b.sound C a t p _ ok path).kept, tt)
@@ -52,7 +52,7 @@ returns c =
     let a = c.args.agent in
     let t = c.args.tally in
     let p = c.args.place in
-    let ok = sym c.may-depart.ensures ∙ c.in-ok-may-depart.was in
+    let ok = sym c.may_depart.ensures ∙ c.in_ok-may_depart.was in
     let C = fixed_tables c.leave.new.nodes c.leave.new.ledger in
     let path : C ≡ leaves (fixed_of b) a t (15 * t + p) = (λ i. fixed_tables (c.leave.ensures.nodes i) (c.leave.ensures.ledger i)) in
     let done = depart_answered fixed_layout fixed_lays (fixed_of b) b.sound C a t p _ ok path in

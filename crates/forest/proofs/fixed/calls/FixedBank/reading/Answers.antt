@@ -22,33 +22,33 @@ module _ (b : Fixed) (t : ℕ) (u : Unit {0}) (ok : shut b.ledger t ≡ Ok u) wh
   there : 15 * t < length b.nodes
   there = omega (arith, root_open fixed_layout fixed_lays (fixed_of b) b.sound t low)
 
-pub returns-in-err-shut : goal.returns-in-err-shut
-returns-in-err-shut c =
+pub returns-in_err-shut : goal.returns-in_err-shut
+returns-in_err-shut c =
     let b = c.args.self.now in
-    let back = err_from_is_err_and c.from-residual.result c.from-residual.ensures.1 in
-    let no = reading_not fixed_layout fixed_lays (fixed_of b) c.args.tally c.in-err-shut.field-0.0 (sym c.shut.ensures ∙ c.in-err-shut.was) in
+    let back = err_from_is_err_and c.from_residual.result c.from_residual.ensures.1 in
+    let no = reading_not fixed_layout fixed_lays (fixed_of b) c.args.tally c.in_err-shut.field-0.0 (sym c.shut.ensures ∙ c.in_err-shut.was) in
     rw (back.1, back.2) (record { exact = no.0; shows = no.1; lawful = lawful fixed_layout fixed_lays (fixed_of b) b.sound })
 
-pub overflow-mul-root : goal.overflow-mul-root
-overflow-mul-root c =
+pub overflow_mul-root : goal.overflow_mul-root
+overflow_mul-root c =
     let b = c.args.self.now in
     let t = c.args.tally in
-    omega (arith, tally_few fixed_layout fixed_lays (fixed_of b) b.sound t (low b t _ (sym c.shut.ensures ∙ c.in-ok-shut.was)))
+    omega (arith, tally_few fixed_layout fixed_lays (fixed_of b) b.sound t (low b t _ (sym c.shut.ensures ∙ c.in_ok-shut.was)))
 
 pub listed : goal.listed
-listed c = there c.args.self.now c.args.tally _ (sym c.shut.ensures ∙ c.in-ok-shut.was)
+listed c = there c.args.self.now c.args.tally _ (sym c.shut.ensures ∙ c.in_ok-shut.was)
 
 pub bounds-self-tally : goal.bounds-self-tally
 bounds-self-tally c =
     let b = c.args.self.now in
     let t = c.args.tally in
-    omega (arith, tally_few fixed_layout fixed_lays (fixed_of b) b.sound t (low b t _ (sym c.shut.ensures ∙ c.in-ok-shut.was)))
+    omega (arith, tally_few fixed_layout fixed_lays (fixed_of b) b.sound t (low b t _ (sym c.shut.ensures ∙ c.in_ok-shut.was)))
 
 pub returns : goal.returns
 returns c =
     let b = c.args.self.now in
     let t = c.args.tally in
-    let ok = sym c.shut.ensures ∙ c.in-ok-shut.was in
+    let ok = sym c.shut.ensures ∙ c.in_ok-shut.was in
     let says = c.read.ensures ∙ ap (λ (n : Node). read_by (empty? n.word.kind)) (get_or_default b.nodes (15 * t) c.index-self-tally.result no_node (there b t _ ok)) in
     let done = reading_answered fixed_layout fixed_lays (fixed_of b) t c.read.result _ ok says in
     record { exact = done.0; shows = done.1; lawful = lawful fixed_layout fixed_lays (fixed_of b) b.sound }

@@ -24,34 +24,34 @@ module _ (b : Fixed) (a : ℕ) (u : Unit {0}) (ok : may_turn b.ledger a ≡ Ok u
   moves : moving (job b.ledger a).phase ≡ true
   moves = only_moves fixed_layout fixed_lays (fixed_of b) b.sound a refl (turns_so fixed_layout fixed_lays (fixed_of b) a (told_ok (may_turn b.ledger a) u ok)).1
 
-pub returns-in-err-may-turn : goal.returns-in-err-may-turn
-returns-in-err-may-turn c =
+pub returns-in_err-may_turn : goal.returns-in_err-may_turn
+returns-in_err-may_turn c =
     let b = c.args.self.now in
-    let back = err_from_is_err_and c.from-residual.result c.from-residual.ensures.1 in
-    let no = turn_not fixed_layout fixed_lays (fixed_of b) c.args.agent c.in-err-may-turn.field-0.0 (sym c.may-turn.ensures ∙ c.in-err-may-turn.was) in
+    let back = err_from_is_err_and c.from_residual.result c.from_residual.ensures.1 in
+    let no = turn_not fixed_layout fixed_lays (fixed_of b) c.args.agent c.in_err-may_turn.field-0.0 (sym c.may_turn.ensures ∙ c.in_err-may_turn.was) in
     rw (back.1, back.2) (record { exact = no.0; shows = (no.1, fixed_whole b _) })
 
 pub climb-said-requires : goal.climb-said-requires
 climb-said-requires c =
     let b = c.args.self.now in
     let a = c.args.agent in
-    let ok = sym c.may-turn.ensures ∙ c.in-ok-may-turn.was in
+    let ok = sym c.may_turn.ensures ∙ c.in_ok-may_turn.was in
     record { agent = low b a _ ok; able = able fixed_layout fixed_lays (fixed_of b) b.sound a (low b a _ ok) (moves b a _ ok) }
 
 -- the base of its tally fits
-pub overflow-mul-errand : goal.overflow-mul-errand
-overflow-mul-errand c =
+pub overflow_mul-errand : goal.overflow_mul-errand
+overflow_mul-errand c =
     let b = c.args.self.now in
     let a = c.args.agent in
-    let ok = sym c.may-turn.ensures ∙ c.in-ok-may-turn.was in
+    let ok = sym c.may_turn.ensures ∙ c.in_ok-may_turn.was in
     let same = get_or_default b.ledger.errands a c.index-ledger-agent.result no_errand (agent_there fixed_layout fixed_lays (fixed_of b) b.sound a (low b a _ ok)) in
     omega (arith, errand_few fixed_layout fixed_lays (fixed_of b) b.sound a (low b a _ ok) (moves b a _ ok), ap (λ (e : Errand). e.tally) same)
 
-pub invariant-of-self-2 : goal.invariant-of-self-2
-invariant-of-self-2 c =
+pub invariant_of-self-2 : goal.invariant_of-self-2
+invariant_of-self-2 c =
     let b = c.args.self.now in
     let a = c.args.agent in
-    let ok = sym c.may-turn.ensures ∙ c.in-ok-may-turn.was in
+    let ok = sym c.may_turn.ensures ∙ c.in_ok-may_turn.was in
     let C = fixed_tables c.climb-said.new.nodes c.climb-said.new.ledger in (
       (climb_answered fixed_layout fixed_lays (fixed_of b) b.sound C a (heard_of fixed_layout (fixed_of b) a) _ ok (moves b a _ ok) refl
           (λ i. fixed_tables (c.climb-said.ensures.nodes i) (c.climb-said.ensures.ledger i))).kept,
@@ -62,7 +62,7 @@ pub returns : goal.returns
 returns c =
     let b = c.args.self.now in
     let a = c.args.agent in
-    let ok = sym c.may-turn.ensures ∙ c.in-ok-may-turn.was in
+    let ok = sym c.may_turn.ensures ∙ c.in_ok-may_turn.was in
     let C = fixed_tables c.climb-said.new.nodes c.climb-said.new.ledger in
     let same = get_or_default b.ledger.errands a c.index-ledger-agent.result no_errand (agent_there fixed_layout fixed_lays (fixed_of b) b.sound a (low b a _ ok)) in
     let says : c.heard.result ≡ heard_of fixed_layout (fixed_of b) a =

@@ -22,20 +22,20 @@ pub leave-requires : goal.leave-requires
 leave-requires c =
     let b = c.args.self.now in
     let t = c.args.tally in
-    let s = so b c.args.agent t c.args.place _ (sym c.may-depart.ensures ∙ c.in-ok-may-depart.was) in
+    let s = so b c.args.agent t c.args.place _ (sym c.may_depart.ensures ∙ c.in_ok-may_depart.was) in
     record {
       agent = s.agent;
       tally = tally_few flat_layout flat_lays (flat_of b) b.sound t s.here;
       node = omega (arith, root_open flat_layout flat_lays (flat_of b) b.sound t s.here);
     }
 
-pub invariant-of-self : goal.invariant-of-self
-invariant-of-self c =
+pub invariant_of-self : goal.invariant_of-self
+invariant_of-self c =
     let b = c.args.self.now in
     let a = c.args.agent in
     let t = c.args.tally in
     let p = c.args.place in
-    let ok = sym c.may-depart.ensures ∙ c.in-ok-may-depart.was in
+    let ok = sym c.may_depart.ensures ∙ c.in_ok-may_depart.was in
     let C = flat_tables c.leave.new.nodes c.leave.new.ledger in
     let path : C ≡ leaves (flat_of b) a t (t + p) = (λ i. flat_tables (c.leave.ensures.nodes i) (c.leave.ensures.ledger i)) ∙ ap (leaves (flat_of b) a t) (here b a t p _ ok) in
     ((depart_answered flat_layout flat_lays (flat_of b) b.sound C a t p _ ok path).kept, tt)
@@ -46,7 +46,7 @@ returns c =
     let a = c.args.agent in
     let t = c.args.tally in
     let p = c.args.place in
-    let ok = sym c.may-depart.ensures ∙ c.in-ok-may-depart.was in
+    let ok = sym c.may_depart.ensures ∙ c.in_ok-may_depart.was in
     let C = flat_tables c.leave.new.nodes c.leave.new.ledger in
     let path : C ≡ leaves (flat_of b) a t (t + p) = (λ i. flat_tables (c.leave.ensures.nodes i) (c.leave.ensures.ledger i)) ∙ ap (leaves (flat_of b) a t) (here b a t p _ ok) in
     let done = depart_answered flat_layout flat_lays (flat_of b) b.sound C a t p _ ok path in

@@ -14,31 +14,31 @@ use Rattle.forest.proofs.flat.calls.FlatBank.open.Goals as goal
 first : (o : ℕ) → o ≡ 1 * o
 first o = omega arith
 
-pub returns-in-err-may-open : goal.returns-in-err-may-open
-returns-in-err-may-open c =
+pub returns-in_err-may_open : goal.returns-in_err-may_open
+returns-in_err-may_open c =
     let b = c.args.self.now in
-    let back = err_from_is_err_and c.from-residual.result c.from-residual.ensures.1 in
-    let no = open_not flat_layout flat_lays (flat_of b) c.in-err-may-open.field-0.0 (sym c.may-open.ensures ∙ c.in-err-may-open.was) in
+    let back = err_from_is_err_and c.from_residual.result c.from_residual.ensures.1 in
+    let no = open_not flat_layout flat_lays (flat_of b) c.in_err-may_open.field-0.0 (sym c.may_open.ensures ∙ c.in_err-may_open.was) in
     rw (back.1, back.2) (record { exact = no.0; shows = (no.1, flat_whole b _) })
 
-pub invariant-of-self-2 : goal.invariant-of-self-2
-invariant-of-self-2 c =
+pub invariant_of-self-2 : goal.invariant_of-self-2
+invariant_of-self-2 c =
     let b = c.args.self.now in
-    let ok = sym c.may-open.ensures ∙ c.in-ok-may-open.was in
-    let C = flat_tables c.open-root-tally.new.nodes c.open-root-tally.new.ledger in
+    let ok = sym c.may_open.ensures ∙ c.in_ok-may_open.was in
+    let C = flat_tables c.open_root-tally.new.nodes c.open_root-tally.new.ledger in
     let path : C ≡ opens flat_layout (flat_of b) =
-    (λ i. flat_tables (c.open-root-tally.ensures.nodes i) (c.open-root-tally.ensures.ledger i))
+    (λ i. flat_tables (c.open_root-tally.ensures.nodes i) (c.open_root-tally.ensures.ledger i))
     ∙ ap (λ (r : ℕ). flat_tables (set b.nodes r (root_node b.ledger.opened)) (ledgers.opens b.ledger)) (first b.ledger.opened) in
     ((open_answered flat_layout flat_lays (flat_of b) b.sound C _ (b.ledger.opened, 0) ok refl path).kept, tt)
 
 pub returns : goal.returns
 returns c =
     let b = c.args.self.now in
-    let ok = sym c.may-open.ensures ∙ c.in-ok-may-open.was in
-    let C = flat_tables c.open-root-tally.new.nodes c.open-root-tally.new.ledger in
+    let ok = sym c.may_open.ensures ∙ c.in_ok-may_open.was in
+    let C = flat_tables c.open_root-tally.new.nodes c.open_root-tally.new.ledger in
     let path : C ≡ opens flat_layout (flat_of b) =
-    (λ i. flat_tables (c.open-root-tally.ensures.nodes i) (c.open-root-tally.ensures.ledger i))
+    (λ i. flat_tables (c.open_root-tally.ensures.nodes i) (c.open_root-tally.ensures.ledger i))
     ∙ ap (λ (r : ℕ). flat_tables (set b.nodes r (root_node b.ledger.opened)) (ledgers.opens b.ledger)) (first b.ledger.opened) in
-    let value = c.open-root-tally.ensures.value in
-    let done = open_answered flat_layout flat_lays (flat_of b) b.sound C _ (c.open-root-tally.result, 0) ok (ap (λ (n : ℕ). (n, 0)) value) path in
+    let value = c.open_root-tally.ensures.value in
+    let done = open_answered flat_layout flat_lays (flat_of b) b.sound C _ (c.open_root-tally.result, 0) ok (ap (λ (n : ℕ). (n, 0)) value) path in
     record { exact = done.exact; shows = (value, done.shows) }

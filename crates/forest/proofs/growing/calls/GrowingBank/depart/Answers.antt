@@ -21,20 +21,20 @@ pub leave-requires : goal.leave-requires
 leave-requires c =
     let b = c.args.self.now in
     let t = c.args.tally in
-    let s = so b c.args.agent t c.args.place _ (sym c.may-depart.ensures ∙ c.in-ok-may-depart.was) in
+    let s = so b c.args.agent t c.args.place _ (sym c.may_depart.ensures ∙ c.in_ok-may_depart.was) in
     record {
       agent = s.agent;
       tally = tally_few growing_layout growing_lays (growing_of b) b.sound t s.here;
       node = (let n = place_there growing_layout growing_lays (growing_of b) b.sound t s.here c.args.place s.place in omega (arith, n));
     }
 
-pub invariant-of-self : goal.invariant-of-self
-invariant-of-self c =
+pub invariant_of-self : goal.invariant_of-self
+invariant_of-self c =
     let b = c.args.self.now in
     let a = c.args.agent in
     let t = c.args.tally in
     let p = c.args.place in
-    let ok = sym c.may-depart.ensures ∙ c.in-ok-may-depart.was in
+    let ok = sym c.may_depart.ensures ∙ c.in_ok-may_depart.was in
     let C = growing_tables c.leave.new.nodes c.leave.new.ledger b.tallies b.used in
     let path : C ≡ leaves (growing_of b) a t (0 + p) = (λ i. growing_tables (c.leave.ensures.nodes i) (c.leave.ensures.ledger i) b.tallies b.used) ∙ ap (leaves (growing_of b) a t) (here p) in
     ((depart_answered growing_layout growing_lays (growing_of b) b.sound C a t p _ ok path).kept, tt)
@@ -45,7 +45,7 @@ returns c =
     let a = c.args.agent in
     let t = c.args.tally in
     let p = c.args.place in
-    let ok = sym c.may-depart.ensures ∙ c.in-ok-may-depart.was in
+    let ok = sym c.may_depart.ensures ∙ c.in_ok-may_depart.was in
     let C = growing_tables c.leave.new.nodes c.leave.new.ledger b.tallies b.used in
     let path : C ≡ leaves (growing_of b) a t (0 + p) = (λ i. growing_tables (c.leave.ensures.nodes i) (c.leave.ensures.ledger i) b.tallies b.used) ∙ ap (leaves (growing_of b) a t) (here p) in
     let done = depart_answered growing_layout growing_lays (growing_of b) b.sound C a t p _ ok path in

@@ -88,23 +88,23 @@ module _ (b : Growing) (a : ℕ) (u : Unit {0}) (ok : may_turn b.ledger a ≡ Ok
         by_way (parts s q) = absurd (no_fork s (ap (λ (e : Errand). e.phase) (same d) ∙ q))
         by_way (ways.moves m) = m
 
-pub returns-in-err-may-turn : goal.returns-in-err-may-turn
-returns-in-err-may-turn c =
+pub returns-in_err-may_turn : goal.returns-in_err-may_turn
+returns-in_err-may_turn c =
     let b = c.args.self.now in
-    let back = err_from_is_err_and c.from-residual.result c.from-residual.ensures.1 in
-    let no = turn_not growing_layout growing_lays (growing_of b) c.args.agent c.in-err-may-turn.field-0.0 (sym c.may-turn.ensures ∙ c.in-err-may-turn.was) in
+    let back = err_from_is_err_and c.from_residual.result c.from_residual.ensures.1 in
+    let no = turn_not growing_layout growing_lays (growing_of b) c.args.agent c.in_err-may_turn.field-0.0 (sym c.may_turn.ensures ∙ c.in_err-may_turn.was) in
     rw (back.1, back.2) (record { exact = no.0; shows = (no.1, growing_whole b _) })
 
 -- Linking
 
 pub link-requires : goal.link-requires
 link-requires c =
-    there c.args.self.now c.args.agent _ (sym c.may-turn.ensures ∙ c.in-ok-may-turn.was) c.index-ledger-agent.result (ap begins c.in-Grow.is)
+    there c.args.self.now c.args.agent _ (sym c.may_turn.ensures ∙ c.in_ok-may_turn.was) c.index-ledger-agent.result (ap begins c.in-Grow.is)
 
-pub invariant-of-self-in-Grow : goal.invariant-of-self-in-Grow
-invariant-of-self-in-Grow c =
+pub invariant_of-self-in-Grow : goal.invariant_of-self-in-Grow
+invariant_of-self-in-Grow c =
     let b = c.args.self.now in (
-      (grown b c.args.agent _ (sym c.may-turn.ensures ∙ c.in-ok-may-turn.was) c.index-ledger-agent.result
+      (grown b c.args.agent _ (sym c.may_turn.ensures ∙ c.in_ok-may_turn.was) c.index-ledger-agent.result
           (growing_tables c.link.new.nodes c.put.new.self b.tallies c.link.result) c.in-Grow.side c.in-Grow.coin c.in-Grow.is
           (λ i. growing_tables (c.link.ensures.nodes i) (c.put.ensures i) b.tallies (c.link.ensures.used i))).kept,
       tt,
@@ -113,7 +113,7 @@ invariant-of-self-in-Grow c =
 pub returns-in-Grow : goal.returns-in-Grow
 returns-in-Grow c =
     let b = c.args.self.now in
-    let done = grown b c.args.agent _ (sym c.may-turn.ensures ∙ c.in-ok-may-turn.was) c.index-ledger-agent.result
+    let done = grown b c.args.agent _ (sym c.may_turn.ensures ∙ c.in_ok-may_turn.was) c.index-ledger-agent.result
     (growing_tables c.link.new.nodes c.put.new.self b.tallies c.link.result) c.in-Grow.side c.in-Grow.coin c.in-Grow.is
     (λ i. growing_tables (c.link.ensures.nodes i) (c.put.ensures i) b.tallies (c.link.ensures.used i)) in
     record { exact = done.exact; shows = done.shows }
@@ -122,7 +122,7 @@ returns-in-Grow c =
 
 pub bounds-nodes-errand : goal.bounds-nodes-errand
 bounds-nodes-errand c =
-    there c.args.self.now c.args.agent _ (sym c.may-turn.ensures ∙ c.in-ok-may-turn.was) c.index-ledger-agent.result (ap begins c.in-Fork.is)
+    there c.args.self.now c.args.agent _ (sym c.may_turn.ensures ∙ c.in_ok-may_turn.was) c.index-ledger-agent.result (ap begins c.in-Fork.is)
 
 -- the node as the code reads it
 read_is : (b : Growing) (a : ℕ) (u : Unit {0}) (ok : may_turn b.ledger a ≡ Ok u) (d : Errand) (n : Node) → begins (get_or b.ledger.errands a d).phase ≡ 1
@@ -134,14 +134,14 @@ fork-requires c k e =
     let b = c.args.self.now in
     let d = c.index-ledger-agent.result in
     let n = c.index-nodes-errand.result in
-    let is = read_is b c.args.agent _ (sym c.may-turn.ensures ∙ c.in-ok-may-turn.was) d n (ap begins c.in-Fork.is) in
+    let is = read_is b c.args.agent _ (sym c.may_turn.ensures ∙ c.in_ok-may_turn.was) d n (ap begins c.in-Fork.is) in
     left_few growing_layout growing_lays (growing_of b) b.sound (get_or b.ledger.errands c.args.agent d).node k (ap (λ (m : Node). m.left) (sym is) ∙ e)
 
-pub invariant-of-self-in-Fork : goal.invariant-of-self-in-Fork
-invariant-of-self-in-Fork c =
+pub invariant_of-self-in-Fork : goal.invariant_of-self-in-Fork
+invariant_of-self-in-Fork c =
     let b = c.args.self.now in
     let a = c.args.agent in
-    let ok = sym c.may-turn.ensures ∙ c.in-ok-may-turn.was in
+    let ok = sym c.may_turn.ensures ∙ c.in_ok-may_turn.was in
     let d = c.index-ledger-agent.result in
     let is = read_is b a _ ok d c.index-nodes-errand.result (ap begins c.in-Fork.is) in
     let e = get_or b.ledger.errands a d in
@@ -155,7 +155,7 @@ pub returns-in-Fork : goal.returns-in-Fork
 returns-in-Fork c =
     let b = c.args.self.now in
     let a = c.args.agent in
-    let ok = sym c.may-turn.ensures ∙ c.in-ok-may-turn.was in
+    let ok = sym c.may_turn.ensures ∙ c.in_ok-may_turn.was in
     let d = c.index-ledger-agent.result in
     let is = read_is b a _ ok d c.index-nodes-errand.result (ap begins c.in-Fork.is) in
     let e = get_or b.ledger.errands a d in
@@ -170,29 +170,29 @@ pub climb-said-requires : goal.climb-said-requires
 climb-said-requires c =
     let b = c.args.self.now in
     let a = c.args.agent in
-    let ok = sym c.may-turn.ensures ∙ c.in-ok-may-turn.was in
-    let mo = rest b a _ ok c.index-ledger-agent.result (growing_of b) c.in-default.not-Grow c.in-default.not-Fork in
+    let ok = sym c.may_turn.ensures ∙ c.in_ok-may_turn.was in
+    let mo = rest b a _ ok c.index-ledger-agent.result (growing_of b) c.in_default.not-Grow c.in_default.not-Fork in
     record { agent = low b a _ ok; able = able growing_layout growing_lays (growing_of b) b.sound a (low b a _ ok) mo }
 
-pub invariant-of-self-in-default : goal.invariant-of-self-in-default
-invariant-of-self-in-default c =
+pub invariant_of-self-in_default : goal.invariant_of-self-in_default
+invariant_of-self-in_default c =
     let b = c.args.self.now in
     let a = c.args.agent in
-    let ok = sym c.may-turn.ensures ∙ c.in-ok-may-turn.was in
-    let mo = rest b a _ ok c.index-ledger-agent.result (growing_of b) c.in-default.not-Grow c.in-default.not-Fork in
+    let ok = sym c.may_turn.ensures ∙ c.in_ok-may_turn.was in
+    let mo = rest b a _ ok c.index-ledger-agent.result (growing_of b) c.in_default.not-Grow c.in_default.not-Fork in
     let C = growing_tables c.climb-said.new.nodes c.climb-said.new.ledger b.tallies b.used in (
       (climb_answered growing_layout growing_lays (growing_of b) b.sound C a (heard_of growing_layout (growing_of b) a) _ ok mo refl
           (λ i. growing_tables (c.climb-said.ensures.nodes i) (c.climb-said.ensures.ledger i) b.tallies b.used)).kept,
       tt,
     )
 
-pub returns-in-default : goal.returns-in-default
-returns-in-default c =
+pub returns-in_default : goal.returns-in_default
+returns-in_default c =
     let b = c.args.self.now in
     let a = c.args.agent in
-    let ok = sym c.may-turn.ensures ∙ c.in-ok-may-turn.was in
+    let ok = sym c.may_turn.ensures ∙ c.in_ok-may_turn.was in
     let d = c.index-ledger-agent.result in
-    let mo = rest b a _ ok d (growing_of b) c.in-default.not-Grow c.in-default.not-Fork in
+    let mo = rest b a _ ok d (growing_of b) c.in_default.not-Grow c.in_default.not-Fork in
     let C = growing_tables c.climb-said.new.nodes c.climb-said.new.ledger b.tallies b.used in
     let says : c.heard.result ≡ heard_of growing_layout (growing_of b) a =
     c.heard.ensures ∙ ap (λ (e : Errand). heard 0 e.later c.climb-said.result) (same b a _ ok d) ∙ ap (heard 0 (job b.ledger a).later) c.climb-said.ensures.value in
