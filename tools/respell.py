@@ -133,14 +133,18 @@ def main():
         print("left: " + " ".join(left))
         return
 
-    def turn(m):
-        name = m.group(0)
-        # a part of a goal's record may be named as a definition is
-        if m.string[: m.start()].endswith(".") and name not in parts and not re.search(r"use [\w.'-]+\.$", m.string[: m.start()]):
-            return name
-        return table.get(name, name)
-
     def text(all):
+        modules = set(re.findall(r"\buse [\w.'-]+ as (" + WORD + ")", all))
+
+        def turn(m):
+            name, before = m.group(0), m.string[: m.start()]
+            # a part of a goal's record may be named as a definition is
+            if before.endswith(".") and name not in parts and not re.search(r"use [\w.'-]+\.$", before):
+                path = re.search(r"(?<![\w'.-])(" + WORD + r")\.$", before)
+                if not path or path.group(1) not in modules:
+                    return name
+            return table.get(name, name)
+
         return "\n".join(NAME.sub(turn, line) for line in all.split("\n"))
 
     for p in files(".antt"):

@@ -40,9 +40,17 @@ sound e = record {
 
 -- the facts as an engine owes them
 abbrev pub Owed : List Task → List Pair → List (Option ℕ) → ℕ → Type 0
-Owed ks qs hs r =
-    Sized ks qs hs r
-    × (Given ks r × (Held ks × (Known ks r × (Awaited ks × (Paired ks × (Ranged ks × (Last ks × (Handed ks hs × Unit {0}))))))))
+Owed ks qs hs r = record {
+  sized : Sized ks qs hs r;
+  given : Given ks r;
+  held : Held ks;
+  known : Known ks r;
+  awaited : Awaited ks;
+  paired : Paired ks;
+  ranged : Ranged ks;
+  last : Last ks;
+  handed : Handed ks hs;
+}
 
 -- of tables that are equal to sound ones
 pub owed : {ks ls : List Task} {qs ps : List Pair} {hs gs : List (Option ℕ)} {r : ℕ}
@@ -51,7 +59,17 @@ owed {ks} {ls} {qs} {ps} {hs} {gs} {r} tasks pairs hands s =
     subst (λ (x : List Task). Owed x ps gs r) (sym tasks)
     (subst (λ (x : List Pair). Owed ks x gs r) (sym pairs)
     (subst (λ (x : List (Option ℕ)). Owed ks qs x r) (sym hands)
-    (s.sized, (s.given, (s.held, (s.known, (s.awaited, (s.paired, (s.ranged, (s.last, (s.handed, tt)))))))))))
+    (record {
+      sized = s.sized;
+      given = s.given;
+      held = s.held;
+      known = s.known;
+      awaited = s.awaited;
+      paired = s.paired;
+      ranged = s.ranged;
+      last = s.last;
+      handed = s.handed;
+    })))
 
 -- Phases
 

@@ -71,7 +71,7 @@ module _ {B : Type 0} where
 
 module _ {B : Type 0} (means : B → Meaning) (does : B → Request → Reply → B → Type 0) where
   abbrev pub Opening : B → Result (ℕ × ℕ) BankFault → B → Type 0
-  Opening b r c = banks.OpenOf means b r c × does b banks.open-one (banks.opened r) c
+  Opening b r c = banks.OpenOf means b r c × does b banks.open_one (banks.opened r) c
 
   abbrev pub Departing : B → (a t p : ℕ) → Result Unit BankFault → B → Type 0
   Departing b a t p r c = banks.DepartOf means b a t p r c × does b (banks.depart a t p) (banks.begun r) c

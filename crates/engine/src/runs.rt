@@ -10,7 +10,7 @@ use std::alloc::{AllocError, Global};
 // Performs one call, and appends its answer.
 fn perform<B: Bank>(engine: &mut Engine<B>, call: Call, answers: &mut Vec<Answer>)
     requires { vec_len answers.old < vec_capacity answers.old }
-    ensures step { (a : Answer) × Step means does (state_of engine.old) call a (state_of engine.new) × (answers.new.items ≡ answers.old.items ++ (a ∷ [])) }
+    ensures step { (a : Answer) × Step B.means B.does (state_of engine.old) call a (state_of engine.new) × (answers.new.items ≡ answers.old.items ++ (a ∷ [])) }
     ensures len { vec_len answers.new ≡ vec_len answers.old + 1 }
     ensures capacity { vec_capacity answers.new ≡ vec_capacity answers.old }
 {
@@ -19,7 +19,7 @@ fn perform<B: Bank>(engine: &mut Engine<B>, call: Call, answers: &mut Vec<Answer
 
 // Makes an engine over the bank, performs each call in order, and gives the answers.
 pub fn run<B: Bank + Drop>(heap: Global, bank: B, calls: &[Call]) -> Result<Vec<Answer>, AllocError>
-    ensures runs { IfOk result (λ v. Runs means does bank calls.now v.items) }
+    ensures runs { IfOk result (λ v. Runs B.means B.does bank calls.now v.items) }
     ensures len { IfOk result (λ v. length v.items ≡ length calls.now) }
 {
     let mut answers = Vec::with_capacity(heap, calls.len())?;

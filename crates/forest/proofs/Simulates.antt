@@ -312,7 +312,7 @@ module _ (t : ℕ) (l : ℕ × ℕ) (fs : List Frame) (long : length fs ≡ 16) 
     -- Opening
 
     open_won : (m : Word) (law : (0 ≤ n) × (n ≤ 0)) (o : Option ℕ) → mv ≡ v → ((q : ℕ) → o ≡ Some q → h < 16)
-        → Sim (En Open x m h) (Wd Empty law) (opens_below (Wd Empty law) o (En Open x m h)) (climb.won-open o x mv fs')
+        → Sim (En Open x m h) (Wd Empty law) (opens_below (Wd Empty law) o (En Open x m h)) (climb.won_open o x mv fs')
     open_won m law None b room = (
       arrived_is Open x m h (cell (opened true (Wd Empty law))) ∙ ap (λ (a : ℕ). climb.done x fs' (climb.counted 0 (climb.bump a))) (sym b),
       arrived_carries (En Open x m h) refl refl Open x m h (Some (opened true (Wd Empty law))) low hs,
@@ -352,27 +352,27 @@ module _ (t : ℕ) (l : ℕ × ℕ) (fs : List Frame) (long : length fs ≡ 16) 
         apart s = let z : ◌≡◌ {A = ℕ} 0 1 = cc in omega arith
 
     last_lowered : (m : Word) (law : (1 ≤ n) × (n ≤ 16383)) (o : Option ℕ)
-        → Sim (En Lower x m h) (Wd Counted law) (writes (emptied (Wd Counted law)) (lowers_by true o (En Lower x m h))) (climb.won-lower o 0 v x (back_to fs h))
+        → Sim (En Lower x m h) (Wd Counted law) (writes (emptied (Wd Counted law)) (lowers_by true o (En Lower x m h))) (climb.won_lower o 0 v x (back_to fs h))
     last_lowered m law None = (departed_is true Lower x m h (climb.empty v), departed_carries (En Lower x m h) refl refl true Lower x m h (Some (emptied (Wd Counted law))) low hs)
     last_lowered m law (Some q) = (refl, looks_on (En Lower x m h) refl refl q m h (Some (emptied (Wd Counted law))) low hs)
 
     more_lowered : (m : Word) (law : (1 ≤ n) × (n ≤ 16383)) (o : Option ℕ) → 1 < n
-        → Sim (En Lower x m h) (Wd Counted law) (writes (fewer (Wd Counted law)) (lowers_by false o (En Lower x m h))) (climb.won-lower o (suc (pred (max 1 (n - 1)))) v x (back_to fs h))
+        → Sim (En Lower x m h) (Wd Counted law) (writes (fewer (Wd Counted law)) (lowers_by false o (En Lower x m h))) (climb.won_lower o (suc (pred (max 1 (n - 1)))) v x (back_to fs h))
     more_lowered m law None some = (departed_is false Lower x m h (cell (fewer (Wd Counted law))), departed_carries (En Lower x m h) refl refl false Lower x m h (Some (fewer (Wd Counted law))) low hs)
     more_lowered m law (Some q) some = (departed_is false Lower x m h (cell (fewer (Wd Counted law))), departed_carries (En Lower x m h) refl refl false Lower x m h (Some (fewer (Wd Counted law))) low hs)
 
     lower_won : (m : Word) (law : (1 ≤ n) × (n ≤ 16383)) (b : Bool) → leb n 1 ≡ b → mc ≡ n → mv ≡ v
-        → Sim (En Lower x m h) (Wd Counted law) (writes (cond b (emptied (Wd Counted law)) (fewer (Wd Counted law))) (lowers_by b up (En Lower x m h))) (climb.won-lower up (pred mc) mv x (back_to fs h))
+        → Sim (En Lower x m h) (Wd Counted law) (writes (cond b (emptied (Wd Counted law)) (fewer (Wd Counted law))) (lowers_by b up (En Lower x m h))) (climb.won_lower up (pred mc) mv x (back_to fs h))
     lower_won m law true e a b =
         let c : n ≤ 1 = grind (arith, nat_tests) in
         let d : pred mc ≡ 0 = omega (arith, law.0) in
-        subst (λ (i : ℕ). Sim (En Lower x m h) (Wd Counted law) (writes (emptied (Wd Counted law)) (lowers_by true up (En Lower x m h))) (climb.won-lower up i mv x (back_to fs h))) (sym d)
-        (subst (λ (i : ℕ). Sim (En Lower x m h) (Wd Counted law) (writes (emptied (Wd Counted law)) (lowers_by true up (En Lower x m h))) (climb.won-lower up 0 i x (back_to fs h))) (sym b) (last_lowered m law up))
+        subst (λ (i : ℕ). Sim (En Lower x m h) (Wd Counted law) (writes (emptied (Wd Counted law)) (lowers_by true up (En Lower x m h))) (climb.won_lower up i mv x (back_to fs h))) (sym d)
+        (subst (λ (i : ℕ). Sim (En Lower x m h) (Wd Counted law) (writes (emptied (Wd Counted law)) (lowers_by true up (En Lower x m h))) (climb.won_lower up 0 i x (back_to fs h))) (sym b) (last_lowered m law up))
     lower_won m law false e a b =
         let c : 1 < n = grind (arith, nat_tests) in
         let d : pred mc ≡ suc (pred (max 1 (n - 1))) = omega arith in
-        subst (λ (i : ℕ). Sim (En Lower x m h) (Wd Counted law) (writes (fewer (Wd Counted law)) (lowers_by false up (En Lower x m h))) (climb.won-lower up i mv x (back_to fs h))) (sym d)
-        (subst (λ (i : ℕ). Sim (En Lower x m h) (Wd Counted law) (writes (fewer (Wd Counted law)) (lowers_by false up (En Lower x m h))) (climb.won-lower up (suc (pred (max 1 (n - 1)))) i x (back_to fs h))) (sym b)
+        subst (λ (i : ℕ). Sim (En Lower x m h) (Wd Counted law) (writes (fewer (Wd Counted law)) (lowers_by false up (En Lower x m h))) (climb.won_lower up i mv x (back_to fs h))) (sym d)
+        (subst (λ (i : ℕ). Sim (En Lower x m h) (Wd Counted law) (writes (fewer (Wd Counted law)) (lowers_by false up (En Lower x m h))) (climb.won_lower up (suc (pred (max 1 (n - 1)))) i x (back_to fs h))) (sym b)
         (more_lowered m law up c))
 
     lowering : (mlaw : (1 ≤ mc) × (mc ≤ 16383)) (law : (1 ≤ n) × (n ≤ 16383))
@@ -410,14 +410,14 @@ module _ (t : ℕ) (l : ℕ × ℕ) (fs : List Frame) (long : length fs ≡ 16) 
     kept : Fit e
     kept = record { size = long; short = low; word = refl; halves = hs; settles = (λ s. (omega arith, here ∙ sym (ap (λ (f : Frame). f.node) (last_is i)))); flat = (λ s. never s) }
 
-    lost : (w : Word) (o : Option ℕ) → So w (loses o e) (climb.lost-settle o (role_of (fr i).role) x mv (frames_to fs i) (cell w))
+    lost : (w : Word) (o : Option ℕ) → So w (loses o e) (climb.lost_settle o (role_of (fr i).role) x mv (frames_to fs i) (cell w))
     lost w None = (refl, going_on e refl refl e None kept refl refl refl)
     lost w (Some q) = (
       ap (λ (y : ℕ). climb.left (climb.dep q climb.looks (climb.back (role_of (fr i).role) y (frames_to fs i))) (cell w) climb.going) (sym here),
       looks_on e refl refl q Hd (suc i) None low hs,
     )
 
-    over_won : (r : climb.Role) (y : ℕ) (gs : List climb.Frame) (a : ℕ) → over r y gs (climb.counted 0 a) ≡ climb.won-settle r y a gs
+    over_won : (r : climb.Role) (y : ℕ) (gs : List climb.Frame) (a : ℕ) → over r y gs (climb.counted 0 a) ≡ climb.won_settle r y a gs
     over_won climb.owner y gs a = refl
     over_won climb.helper y gs a = refl
 
@@ -428,8 +428,8 @@ module _ (t : ℕ) (l : ℕ × ℕ) (fs : List Frame) (long : length fs ≡ 16) 
         by_test (So w) (still e w) _ (writes (settled w) (resumed e)) (loses up e) _ _ (same_half mc n v mv mlaw.1 law.1)
         (λ b. (
           resumed_is Settle x Hd i (climb.counted 0 v) ∙ over_won (role_of (fr i).role) (fr i).node (frames_to fs i) v
-              ∙ ap (λ (y : ℕ). climb.won-settle (role_of (fr i).role) y v (frames_to fs i)) (sym here)
-              ∙ ap (λ (a : ℕ). climb.won-settle (role_of (fr i).role) x a (frames_to fs i)) (sym (same_tells 1 mc n v mv b).1),
+              ∙ ap (λ (y : ℕ). climb.won_settle (role_of (fr i).role) y v (frames_to fs i)) (sym here)
+              ∙ ap (λ (a : ℕ). climb.won_settle (role_of (fr i).role) x a (frames_to fs i)) (sym (same_tells 1 mc n v mv b).1),
           resumed_carries e refl refl Settle x Hd i (Some (settled w)) low hs,
         ))
         (λ b. lost w up)

@@ -65,11 +65,11 @@ module _ (L : Layout) (l : Lays L) (B : Tables) (s : ∥ Sound L B ∥₁) where
   module _ (a : ℕ) (in_a : a < 16) (mo : moving (job B.ledger a).phase ≡ true) where
     pub able : Able B.nodes (job B.ledger a)
     able = record {
-      node = le_from _ _ s (λ z. turning.node-low L l B z a in_a mo);
+      node = le_from _ _ s (λ z. turning.node_low L l B z a in_a mo);
       high = le_from _ _ s (λ z. (z.fit a).short);
-      room = (λ q e m. le_from _ _ s (λ z. turning.room-left L l B z a in_a mo q e m));
+      room = (λ q e m. le_from _ _ s (λ z. turning.room_left L l B z a in_a mo q e m));
       waits = (λ e. le_from _ _ s (λ z. ((z.fit a).settles e).0));
-      place = (λ y e. le_from _ _ s (λ z. turning.place-low L l B z a in_a mo y e));
+      place = (λ y e. le_from _ _ s (λ z. turning.place_low L l B z a in_a mo y e));
       few = (λ y e. le_from _ _ s (λ z. turning.place_out L l B z a in_a mo y e));
     }
 

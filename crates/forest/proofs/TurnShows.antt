@@ -197,10 +197,10 @@ module _ (L : Layout) (l : Lays L) (B : Tables) (s : ∥ Sound L B ∥₁) (a : 
     t = e.tally
 
     s_c : ∥ Sound L C ∥₁
-    s_c = again s (λ z. turning.turn-sound L l B z a in_a mo)
+    s_c = again s (λ z. turning.turn_sound L l B z a in_a mo)
 
     grown : Grown B C
-    grown = grown_from B C (again s (λ z. turning.turn-grown L l B z a in_a mo))
+    grown = grown_from B C (again s (λ z. turning.turn_grown L l B z a in_a mo))
 
     here : job C.ledger a ≡ r.errand
     here = at_set B.ledger.errands a r.errand no_errand in_e
@@ -209,14 +209,14 @@ module _ (L : Layout) (l : Lays L) (B : Tables) (s : ∥ Sound L B ∥₁) (a : 
     falls_by z =
         let deep_b : ℕ → ℕ = λ y. (at B.nodes y).depth in
         let deep_c : ℕ → ℕ = λ y. (at C.nodes y).depth in
-        let same : deep_c ≡ deep_b = fun_ext (turning.depth-still L l B z a in_a mo) in
+        let same : deep_c ≡ deep_b = fun_ext (turning.depth_still L l B z a in_a mo) in
         let low : lone deep_b (climb.turn (par_of B) (state_of B) a).words ((climb.turn (par_of B) (state_of B) a).agents a) + 1 ≤ lone deep_b (state_of B).words ((state_of B).agents a) =
         lone_falls (par_of B) (length B.nodes) 16 (turning.down_is L l B z) deep_b z.deep (state_of B) a in_a z.inv (awake e mo) in
         let st : lone deep_b (state_of C).words ((state_of C).agents a) ≡ lone deep_b (climb.turn (par_of B) (state_of B) a).words ((climb.turn (par_of B) (state_of B) a).agents a) =
-        ap (λ (k : climb.State). lone deep_b k.words (k.agents a)) (turning.turn-state L l B z a in_a mo) in
+        ap (λ (k : climb.State). lone deep_b k.words (k.agents a)) (turning.turn_state L l B z a in_a mo) in
         let dp : lone deep_c (state_of C).words ((state_of C).agents a) ≡ lone deep_b (state_of C).words ((state_of C).agents a) = ap (λ (g : ℕ → ℕ). lone g (state_of C).words ((state_of C).agents a)) same in
         let now : (meaning L C).lone a ≡ lone deep_c (state_of C).words ((state_of C).agents a) =
-        lone_calm (job C.ledger a).phase L.depth _ (ap (λ (f : Errand). begins f.phase) here ∙ turning.turn-calm L l B z a in_a mo) in
+        lone_calm (job C.ledger a).phase L.depth _ (ap (λ (f : Errand). begins f.phase) here ∙ turning.turn_calm L l B z a in_a mo) in
         let was : (meaning L B).lone a ≡ lone deep_b (state_of B).words ((state_of B).agents a) = lone_calm e.phase L.depth _ (calm_moving e.phase mo) in
         omega (arith, low, st, dp, now, was)
 
@@ -226,8 +226,8 @@ module _ (L : Layout) (l : Lays L) (B : Tables) (s : ∥ Sound L B ∥₁) (a : 
     -- the receipts of a node where no arrival has ended
     still_out : (b : Said) → r.said ≡ b → (k z : ℕ) → climb.receipt (said_of b) z ≡ 0 → Sound L B → outs_of C.nodes k z ≡ outs_of B.nodes k z
     still_out b q k z n d =
-        outs_same B.nodes C.nodes k z (turning.tally-still L l B d a in_a mo z)
-        (let o = turning.outs-now L l B d a in_a mo z in let m : climb.receipt (said_of r.said) z ≡ 0 = ap (λ (b : Said). climb.receipt (said_of b) z) q ∙ n in omega (arith, o, m))
+        outs_same B.nodes C.nodes k z (turning.tally_still L l B d a in_a mo z)
+        (let o = turning.outs_now L l B d a in_a mo z in let m : climb.receipt (said_of r.said) z ≡ 0 = ap (λ (b : Said). climb.receipt (said_of b) z) q ∙ n in omega (arith, o, m))
 
     told_by : (b : Said) → r.said ≡ b → Sound L B → climb.Tells (agent e) (agent r.errand) (said_of b)
     told_by b q z = subst (λ (b : Said). climb.Tells (agent e) (agent r.errand) (said_of b)) q (turning.told L l B z a in_a mo)
@@ -236,17 +236,17 @@ module _ (L : Layout) (l : Lays L) (B : Tables) (s : ∥ Sound L B ∥₁) (a : 
     doing_put d f = doings B.ledger.errands a r.errand d in_e (doing_from _ _ s f)
 
     idle_by : climb.aim (agent r.errand) ≡ climb.none → Sound L B → doing_of r.errand ≡ idle
-    idle_by h z = turning.doing-after L l B z a in_a mo ∙ ap (λ (m : climb.Aim). doing_as 0 m r.errand.tally) h
+    idle_by h z = turning.doing_after L l B z a in_a mo ∙ ap (λ (m : climb.Aim). doing_as 0 m r.errand.tally) h
 
     was_by : (m : climb.Aim) → climb.aim (agent e) ≡ m → Sound L B → doing_of e ≡ doing_as 0 m t
-    was_by m h z = turning.doing-before L l B z a in_a mo ∙ ap (λ (m : climb.Aim). doing_as 0 m t) h
+    was_by m h z = turning.doing_before L l B z a in_a mo ∙ ap (λ (m : climb.Aim). doing_as 0 m t) h
 
     -- the errand goes on
     going_shows : r.said ≡ Going → Goes (meaning L B) a (meaning L C)
     going_shows q = record {
       turns = turns_so_far;
       out = outs_still L l B C s s_c refl (λ k z. nat_from _ _ s (still_out Going q k z refl));
-      doing = doing_same r.errand (doing_from _ _ s (λ z. turning.going-doing L l B z a in_a mo q));
+      doing = doing_same r.errand (doing_from _ _ s (λ z. turning.going_doing L l B z a in_a mo q));
     }
 
     -- an arrival has ended at the node y
@@ -269,8 +269,8 @@ module _ (L : Layout) (l : Lays L) (B : Tables) (s : ∥ Sound L B ∥₁) (a : 
           let here_y : outs_of B.nodes t (L.base t + p) ≡ outs_of B.nodes t y = ap (outs_of B.nodes t) place_is in
           let there_y : outs_of C.nodes t (L.base t + p) ≡ outs_of C.nodes t y = ap (outs_of C.nodes t) place_is in
           let more : outs_of C.nodes t y ≡ outs_of B.nodes t y + one (at B.nodes y).tally t =
-          outs_more B.nodes C.nodes t y (turning.tally-still L l B z a in_a mo y)
-          (turning.outs-now L l B z a in_a mo y ∙ ap (λ (b : Said). (at B.nodes y).out + climb.receipt (said_of b) y) q ∙ ap (λ (n : ℕ). (at B.nodes y).out + n) (one_same y y refl)) in
+          outs_more B.nodes C.nodes t y (turning.tally_still L l B z a in_a mo y)
+          (turning.outs_now L l B z a in_a mo y ∙ ap (λ (b : Said). (at B.nodes y).out + climb.receipt (said_of b) y) q ∙ ap (λ (n : ℕ). (at B.nodes y).out + n) (one_same y y refl)) in
           let own : one (at B.nodes y).tally t ≡ 1 = one_same (at B.nodes y).tally t (z.kin t y (inside z)) in
           omega (arith, was, here_y, there_y, more, own)
 
@@ -279,8 +279,8 @@ module _ (L : Layout) (l : Lays L) (B : Tables) (s : ∥ Sound L B ∥₁) (a : 
         | inr n ↦ still_out (Arrived y) q k z (one_other y z n) d
         | inl i ↦ subst (λ (x : ℕ). outs_of C.nodes k x ≡ outs_of B.nodes k x) i
             (let more : outs_of C.nodes k y ≡ outs_of B.nodes k y + one (at B.nodes y).tally k =
-            outs_more B.nodes C.nodes k y (turning.tally-still L l B d a in_a mo y)
-            (turning.outs-now L l B d a in_a mo y ∙ ap (λ (b : Said). (at B.nodes y).out + climb.receipt (said_of b) y) q ∙ ap (λ (n : ℕ). (at B.nodes y).out + n) (one_same y y refl)) in
+            outs_more B.nodes C.nodes k y (turning.tally_still L l B d a in_a mo y)
+            (turning.outs_now L l B d a in_a mo y ∙ ap (λ (b : Said). (at B.nodes y).out + climb.receipt (said_of b) y) q ∙ ap (λ (n : ℕ). (at B.nodes y).out + n) (one_same y y refl)) in
             let none : one (at B.nodes y).tally k ≡ 0 =
             one_other (at B.nodes y).tally k (λ (g : (at B.nodes y).tally ≡ k). apart (sym g ∙ d.kin t y (inside d)) (sym i ∙ sym place_is)) in
             omega (arith, more, none))
@@ -313,7 +313,7 @@ module _ (L : Layout) (l : Lays L) (B : Tables) (s : ∥ Sound L B ∥₁) (a : 
         w = (at C.nodes (root L t)).word
 
         word : cell (at C.nodes (root L t)).word ≡ (climb.turn (par_of B) (state_of B) a).words (root L t)
-        word = λ i. (turning.turn-state L l B z a in_a mo i).words (root L t)
+        word = λ i. (turning.turn_state L l B z a in_a mo i).words (root L t)
 
         live : In L B t e.node
         live = turning.live L l B z a in_a mo
@@ -322,7 +322,7 @@ module _ (L : Layout) (l : Lays L) (B : Tables) (s : ∥ Sound L B ∥₁) (a : 
         drains =
             drained_exactly (par_of B) (length B.nodes) 16 (turning.down_is L l B z) (state_of B) a in_a z.inv (told_by (Departed d) q z).0 (root L t)
             (turning.root_none L l B z t live.0) (subst (climb.Above (par_of B) (root L t)) (sym (node_is e mo)) live.1) d
-            (ap climb.answer-of (sym (turning.is-step L l B z a in_a mo)) ∙ ap said_of q)
+            (ap climb.answer_of (sym (turning.is_step L l B z a in_a mo)) ∙ ap said_of q)
 
     departed_shows : (d : Bool) → r.said ≡ Departed d → DepartedOf (meaning L B) a t d (meaning L C)
     departed_shows d q = record {

@@ -137,7 +137,7 @@ module _ (L : Layout) (lays : Lays L) (B : Tables) (s : Sound L B) where
     is_step = sim.0 ∙ ap (λ (j : ℕ). climb.step (par j) (agent e) (cell (at ns j).word)) (sym here)
 
     pub told : Tells (agent (job B.ledger a)) (agent (after_turn B a).errand) (said_of (after_turn B a).said)
-    told = subst (λ (k : climb.Left). Tells (agent e) (climb.agent-of k) (climb.answer-of k)) (sym sim.0) (tells_step (par x) (agent e) (cell w))
+    told = subst (λ (k : climb.Left). Tells (agent e) (climb.agent_of k) (climb.answer_of k)) (sym sim.0) (tells_step (par x) (agent e) (cell w))
 
     place : Room N (said_of r.said)
     place = answers.room par N (agent e) (agent r.errand) (said_of r.said) ok told
@@ -226,9 +226,9 @@ module _ (L : Layout) (lays : Lays L) (B : Tables) (s : Sound L B) where
 
     goes_from : aim (agent r.errand) ≡ departing → In L B e.tally r.errand.node
     goes_from h =
-        let f : climb.agent-of (climb.step (par x) (agent e) (cell w)) ≡ agent r.errand = ap climb.agent-of (sym sim.0) in
+        let f : climb.agent_of (climb.step (par x) (agent e) (cell w)) ≡ agent r.errand = ap climb.agent_of (sym sim.0) in
         let d = departs_on (par x) (agent e) (cell w) (ap aim f ∙ h) in
-        let n : climb.node (climb.agent-of (climb.step (par x) (agent e) (cell w))) ≡ r.errand.node =
+        let n : climb.node (climb.agent_of (climb.step (par x) (agent e) (cell w))) ≡ r.errand.node =
         ap climb.node f ∙ node_is r.errand (moves_if r.errand (departing_none (aim (agent r.errand)) h)) in
         elim d.1 [
           | inl q ↦ subst (In L B e.tally) (sym here ∙ sym q ∙ n) live

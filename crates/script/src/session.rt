@@ -62,7 +62,7 @@ pub(crate) fn session<B: Bank + Drop>(
     bank: B,
     text: &[u8],
 ) -> Result<String, AllocError>
-    ensures { IfOk result (λ s. Session means does bank text.now (string_bytes s)) }
+    ensures { IfOk result (λ s. Session B.means B.does bank text.now (string_bytes s)) }
 {
     let lines = read_lines(heap, text)?;
     let calls = calls_in(heap, lines.as_slice())?;

@@ -48,7 +48,7 @@ fn turned(res: Result<Moved, EngineFault>) -> Answer
 impl<B: Bank> Engine<B> {
     // One call of a list, with its answer.
     pub fn call(&mut self, call: Call) -> Answer
-        ensures { Step means does (state_of self.old) call result (state_of self.new) }
+        ensures { Step B.means B.does (state_of self.old) call result (state_of self.new) }
     {
         match call {
             Call::Make => made(self.make()),

@@ -29,7 +29,7 @@ impl<B: Bank> Engine<B> {
     // The first turn of a signal claims from the task's pair, and begins the departure.
     pub(crate) fn depart(&mut self, agent: u16, n: u16) -> Result<Moved, EngineFault>
         requires { At (state_of self.old) agent n Begun }
-        ensures { WorkOf means does (state_of self.old) agent n Begun result (state_of self.new) }
+        ensures { WorkOf B.means B.does (state_of self.old) agent n Begun result (state_of self.new) }
     {
         let (tally, pair) = self.stake(n);
         let place = self.pairs[pair as usize].receipt();
@@ -43,7 +43,7 @@ impl<B: Bank> Engine<B> {
     pub(crate) fn leave(&mut self, agent: u16, n: u16) -> Result<Moved, EngineFault>
         requires at { At (state_of self.old) agent n Leaving }
         requires agent { agent ≤ 15 }
-        ensures { WorkOf means does (state_of self.old) agent n Leaving result (state_of self.new) }
+        ensures { WorkOf B.means B.does (state_of self.old) agent n Leaving result (state_of self.new) }
     {
         let Some(finish) = self.task(n).finish else {
             unreachable()

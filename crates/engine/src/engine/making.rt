@@ -24,7 +24,7 @@ impl<B: Bank> Engine<B> {
 
     // Makes a final task, which waits on a new tally, and a root task under it, which is ready. Answers both.
     pub fn make(&mut self) -> Result<(u16, u16), EngineFault>
-        ensures { MakeOf means does (state_of self.old) result (state_of self.new) }
+        ensures { MakeOf B.means B.does (state_of self.old) result (state_of self.new) }
     {
         if self.rounds >= ROUNDS {
             return Err(EngineFault::NoNumbers);

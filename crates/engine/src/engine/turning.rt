@@ -28,7 +28,7 @@ impl<B: Bank> Engine<B> {
 
     // One turn of the agent's errand.
     pub fn turn(&mut self, agent: u16) -> Result<Moved, EngineFault>
-        ensures { TurnOf means does (state_of self.old) agent result (state_of self.new) }
+        ensures { TurnOf B.means B.does (state_of self.old) agent result (state_of self.new) }
     {
         let (n, work) = self.errand(agent)?;
         match work {
