@@ -5,7 +5,7 @@ use Rattle.script.specs.Told.{page_from}
 use Rattle.script.proofs.Lists.{finish}
 use Rattle.script.proofs.Pages.{has_answer, level_more, level_same, page_answer, page_fault}
 use Rattle.script.proofs.session.page.Goals as goal
-use Rattle.script.proofs.session.page.Goals.{in-Ok+in_ok-text+in_ok-push_str, in-Err+in_ok-text-2+in_ok-push_str-2}
+use Rattle.script.proofs.session.page.Goals.{in-Ok+in_ok-text-in-Ok+in_ok-push_str-in-Ok, in-Err+in_ok-text-in-Err+in_ok-push_str-in-Err}
 
 pub bounds-answers-next : goal.bounds-answers-next
 bounds-answers-next c =
@@ -23,22 +23,22 @@ loop-read-preserved c =
     let inv = c.loop-read.invariant in
     let h = c.loop-read-test.true in
     elim c.match-read.branch [
-      | in-Ok+in_ok-text+in_ok-push_str w ↦
+      | in-Ok+in_ok-text-in-Ok+in_ok-push_str-in-Ok w ↦
           let call = w.in-Ok.field-0 in
-          let text = string_bytes w.in_ok-text.text in
+          let text = string_bytes w.in_ok-text-in-Ok.text in
           rw (w.out-is, w.next-is) (
             page_answer lines i _ h answers k j call _ _ got (string_bytes w.push_str.new.self) text whole inv.0 w.in-Ok.is
-                (has_answer lines i _ h answers j call inv.1 w.in-Ok.is) refl w.in_ok-text.ensures.ok
-                (pushed text refl w.in_ok-push_str.was (rw w.as_str.ensures.value at w.push_str.ensures.bytes)),
+                (has_answer lines i _ h answers j call inv.1 w.in-Ok.is) refl w.in_ok-text-in-Ok.ensures.ok
+                (pushed text refl w.in_ok-push_str-in-Ok.was (rw w.as_str.ensures.value at w.push_str.ensures.bytes)),
             level_more lines i _ h answers j call inv.1 w.in-Ok.is,
             omega arith,
           )
-      | in-Err+in_ok-text-2+in_ok-push_str-2 w ↦
-          let text = string_bytes w.in_ok-text-2.text in
+      | in-Err+in_ok-text-in-Err+in_ok-push_str-in-Err w ↦
+          let text = string_bytes w.in_ok-text-in-Err.text in
           rw (w.out-is, w.next-is) (
             page_fault lines i _ h answers k j w.in-Err.fault got (string_bytes w.push_str-in-Err.new.self) text whole inv.0 w.in-Err.is
-                w.in_ok-text-2.ensures.ok
-                (pushed text refl w.in_ok-push_str-2.was (rw w.as_str-in-Err.ensures.value at w.push_str-in-Err.ensures.bytes)),
+                w.in_ok-text-in-Err.ensures.ok
+                (pushed text refl w.in_ok-push_str-in-Err.was (rw w.as_str-in-Err.ensures.value at w.push_str-in-Err.ensures.bytes)),
             level_same lines i _ h answers j w.in-Err.fault inv.1 w.in-Err.is,
             omega arith,
           )
