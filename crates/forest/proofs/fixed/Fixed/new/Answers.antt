@@ -14,7 +14,7 @@ use Rattle.forest.proofs.fixed.Fixed.new.Goals as goal
 pub invariant_of-result : goal.invariant_of-result
 invariant_of-result c =
     let ns = c.lay.new.nodes in
-    (∣ subst (λ (l : Ledger). Sound fixed_layout (fixed_tables ns l)) (sym c.new.ensures) (fixed_first_sound ns c.lay.ensures) ∣₁, tt)
+    record { sound = ∣ subst (λ (l : Ledger). Sound fixed_layout (fixed_tables ns l)) (sym c.new.ensures) (fixed_first_sound ns c.lay.ensures) ∣₁ }
 
 pub returns : goal.returns
 returns c =

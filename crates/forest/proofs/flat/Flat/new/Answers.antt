@@ -10,7 +10,7 @@ use Rattle.forest.proofs.PlansFirst.{flat_first_sound, first_idle}
 use Rattle.forest.proofs.flat.Flat.new.Goals as goal
 
 pub invariant_of-result : goal.invariant_of-result
-invariant_of-result c = (∣ subst (Sound flat_layout) (sym (λ i. flat_tables (c.blanks.ensures i) (c.new.ensures i))) flat_first_sound ∣₁, tt)
+invariant_of-result c = record { sound = ∣ subst (Sound flat_layout) (sym (λ i. flat_tables (c.blanks.ensures i) (c.new.ensures i))) flat_first_sound ∣₁ }
 
 pub returns : goal.returns
 returns c =

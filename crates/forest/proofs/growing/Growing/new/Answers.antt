@@ -16,7 +16,7 @@ invariant_of-result c =
     let T = c.min-tallies.result in
     let size : length c.blank.new.nodes ≡ N = ap length c.blank.ensures ∙ length-replicate N no_node in
     let t : T ≡ min 256 N = search rules in
-    (∣ subst (Sound growing_layout) (sym (λ i. growing_tables (c.blank.ensures i) (c.new.ensures i) (t i) (t i))) (growing_first_sound N) ∣₁, tt)
+    record { sound = ∣ subst (Sound growing_layout) (sym (λ i. growing_tables (c.blank.ensures i) (c.new.ensures i) (t i) (t i))) (growing_first_sound N) ∣₁ }
 
 pub returns : goal.returns
 returns c =

@@ -15,7 +15,7 @@ pub returns-in_err-may_arrive : goal.returns-in_err-may_arrive
 returns-in_err-may_arrive c =
     let b = c.args.self.now in
     let back = err_from_is_err_and c.from_residual.result c.from_residual.ensures.1 in
-    let no = arrive_not fixed_layout fixed_lays (fixed_of b) b.sound c.args.agent c.args.tally c.args.place c.args.-side c.args.-coin c.in_err-may_arrive.field-0.0
+    let no = arrive_not fixed_layout fixed_lays (fixed_of b) b.sound c.args.agent c.args.tally c.args.place c.args._side c.args._coin c.in_err-may_arrive.field-0.0
     (sym c.may_arrive.ensures ∙ c.in_err-may_arrive.was) in
     rw (back.1, back.2) (record { exact = no.0; shows = (no.1, refl) })
 
@@ -43,11 +43,10 @@ invariant_of-self c =
     let a = c.args.agent in
     let t = c.args.tally in
     let ok = sym c.may_arrive.ensures ∙ c.in_ok-may_arrive.was in
-    let path = c.send.ensures ∙ ap (sends b.ledger a t) (c.arriving.ensures ∙ ap (λ (x : ℕ). comer t x (0, 0)) c.leaf-node.ensures) in (
-      (arrive_answered fixed_layout fixed_lays (fixed_of b) b.sound (fixed_tables b.nodes c.send.new.self) a t c.args.place c.args.-side c.args.-coin _ ok
-          (λ i. fixed_tables b.nodes (path i))).kept,
-      tt,
-    )
+    let path = c.send.ensures ∙ ap (sends b.ledger a t) (c.arriving.ensures ∙ ap (λ (x : ℕ). comer t x (0, 0)) c.leaf-node.ensures) in record {
+      sound = (arrive_answered fixed_layout fixed_lays (fixed_of b) b.sound (fixed_tables b.nodes c.send.new.self) a t c.args.place c.args._side c.args._coin _ ok
+          (λ i. fixed_tables b.nodes (path i))).kept;
+    }
 
 pub returns : goal.returns
 returns c =
@@ -56,6 +55,6 @@ returns c =
     let t = c.args.tally in
     let ok = sym c.may_arrive.ensures ∙ c.in_ok-may_arrive.was in
     let path = c.send.ensures ∙ ap (sends b.ledger a t) (c.arriving.ensures ∙ ap (λ (x : ℕ). comer t x (0, 0)) c.leaf-node.ensures) in
-    let done = arrive_answered fixed_layout fixed_lays (fixed_of b) b.sound (fixed_tables b.nodes c.send.new.self) a t c.args.place c.args.-side c.args.-coin _ ok
+    let done = arrive_answered fixed_layout fixed_lays (fixed_of b) b.sound (fixed_tables b.nodes c.send.new.self) a t c.args.place c.args._side c.args._coin _ ok
     (λ i. fixed_tables b.nodes (path i)) in
     record { exact = done.exact; shows = done.shows }

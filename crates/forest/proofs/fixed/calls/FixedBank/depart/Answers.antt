@@ -44,7 +44,7 @@ invariant_of-self c =
     let ok = sym c.may_depart.ensures ∙ c.in_ok-may_depart.was in
     let C = fixed_tables c.leave.new.nodes c.leave.new.ledger in
     let path : C ≡ leaves (fixed_of b) a t (15 * t + p) = (λ i. fixed_tables (c.leave.ensures.nodes i) (c.leave.ensures.ledger i)) in
-    ((depart_answered fixed_layout fixed_lays (fixed_of b) b.sound C a t p _ ok path).kept, tt)
+    record { sound = (depart_answered fixed_layout fixed_lays (fixed_of b) b.sound C a t p _ ok path).kept }
 
 pub returns : goal.returns
 returns c =

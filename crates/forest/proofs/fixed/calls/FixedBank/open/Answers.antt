@@ -22,7 +22,7 @@ invariant_of-self-2 c =
     let C = fixed_tables c.open_root-tally.new.nodes c.open_root-tally.new.ledger in
     let path : C ≡ opens fixed_layout (fixed_of b) =
     (λ i. fixed_tables (c.open_root-tally.ensures.nodes i) (c.open_root-tally.ensures.ledger i)) in
-    ((open_answered fixed_layout fixed_lays (fixed_of b) b.sound C _ (b.ledger.opened, 0) ok refl path).kept, tt)
+    record { sound = (open_answered fixed_layout fixed_lays (fixed_of b) b.sound C _ (b.ledger.opened, 0) ok refl path).kept }
 
 pub returns : goal.returns
 returns c =

@@ -52,11 +52,10 @@ invariant_of-self-2 c =
     let b = c.args.self.now in
     let a = c.args.agent in
     let ok = sym c.may_turn.ensures ∙ c.in_ok-may_turn.was in
-    let C = fixed_tables c.climb-said.new.nodes c.climb-said.new.ledger in (
-      (climb_answered fixed_layout fixed_lays (fixed_of b) b.sound C a (heard_of fixed_layout (fixed_of b) a) _ ok (moves b a _ ok) refl
-          (λ i. fixed_tables (c.climb-said.ensures.nodes i) (c.climb-said.ensures.ledger i))).kept,
-      tt,
-    )
+    let C = fixed_tables c.climb-said.new.nodes c.climb-said.new.ledger in record {
+      sound = (climb_answered fixed_layout fixed_lays (fixed_of b) b.sound C a (heard_of fixed_layout (fixed_of b) a) _ ok (moves b a _ ok) refl
+          (λ i. fixed_tables (c.climb-said.ensures.nodes i) (c.climb-said.ensures.ledger i))).kept;
+    }
 
 pub returns : goal.returns
 returns c =

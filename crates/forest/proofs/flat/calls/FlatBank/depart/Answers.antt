@@ -38,7 +38,7 @@ invariant_of-self c =
     let ok = sym c.may_depart.ensures ∙ c.in_ok-may_depart.was in
     let C = flat_tables c.leave.new.nodes c.leave.new.ledger in
     let path : C ≡ leaves (flat_of b) a t (t + p) = (λ i. flat_tables (c.leave.ensures.nodes i) (c.leave.ensures.ledger i)) ∙ ap (leaves (flat_of b) a t) (here b a t p _ ok) in
-    ((depart_answered flat_layout flat_lays (flat_of b) b.sound C a t p _ ok path).kept, tt)
+    record { sound = (depart_answered flat_layout flat_lays (flat_of b) b.sound C a t p _ ok path).kept }
 
 pub returns : goal.returns
 returns c =

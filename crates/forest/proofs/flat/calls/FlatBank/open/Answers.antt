@@ -29,7 +29,7 @@ invariant_of-self-2 c =
     let path : C ≡ opens flat_layout (flat_of b) =
     (λ i. flat_tables (c.open_root-tally.ensures.nodes i) (c.open_root-tally.ensures.ledger i))
     ∙ ap (λ (r : ℕ). flat_tables (set b.nodes r (root_node b.ledger.opened)) (ledgers.opens b.ledger)) (first b.ledger.opened) in
-    ((open_answered flat_layout flat_lays (flat_of b) b.sound C _ (b.ledger.opened, 0) ok refl path).kept, tt)
+    record { sound = (open_answered flat_layout flat_lays (flat_of b) b.sound C _ (b.ledger.opened, 0) ok refl path).kept }
 
 pub returns : goal.returns
 returns c =

@@ -43,11 +43,10 @@ invariant_of-self-2 c =
     let b = c.args.self.now in
     let a = c.args.agent in
     let ok = sym c.may_turn.ensures ∙ c.in_ok-may_turn.was in
-    let C = flat_tables c.climb-said.new.nodes c.climb-said.new.ledger in (
-      (climb_answered flat_layout flat_lays (flat_of b) b.sound C a (heard_of flat_layout (flat_of b) a) _ ok (moves b a _ ok) refl
-          (λ i. flat_tables (c.climb-said.ensures.nodes i) (c.climb-said.ensures.ledger i))).kept,
-      tt,
-    )
+    let C = flat_tables c.climb-said.new.nodes c.climb-said.new.ledger in record {
+      sound = (climb_answered flat_layout flat_lays (flat_of b) b.sound C a (heard_of flat_layout (flat_of b) a) _ ok (moves b a _ ok) refl
+          (λ i. flat_tables (c.climb-said.ensures.nodes i) (c.climb-said.ensures.ledger i))).kept;
+    }
 
 pub returns : goal.returns
 returns c =

@@ -33,11 +33,10 @@ invariant_of-self c =
     let a = c.args.agent in
     let t = c.args.tally in
     let ok = sym c.may_arrive.ensures ∙ c.in_ok-may_arrive.was in
-    let path = c.send.ensures ∙ ap (sends b.ledger a t) c.growing.ensures in (
-      (arrive_answered growing_layout growing_lays (growing_of b) b.sound (growing_tables b.nodes.now c.send.new.self b.tallies b.used) a t c.args.place c.args.side c.args.coin _ ok
-          (λ i. growing_tables b.nodes.now (path i) b.tallies b.used)).kept,
-      tt,
-    )
+    let path = c.send.ensures ∙ ap (sends b.ledger a t) c.growing.ensures in record {
+      sound = (arrive_answered growing_layout growing_lays (growing_of b) b.sound (growing_tables b.nodes.now c.send.new.self b.tallies b.used) a t c.args.place c.args.side c.args.coin _ ok
+          (λ i. growing_tables b.nodes.now (path i) b.tallies b.used)).kept;
+    }
 
 pub returns : goal.returns
 returns c =

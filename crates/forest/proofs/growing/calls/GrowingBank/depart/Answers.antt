@@ -37,7 +37,7 @@ invariant_of-self c =
     let ok = sym c.may_depart.ensures ∙ c.in_ok-may_depart.was in
     let C = growing_tables c.leave.new.nodes c.leave.new.ledger b.tallies b.used in
     let path : C ≡ leaves (growing_of b) a t (0 + p) = (λ i. growing_tables (c.leave.ensures.nodes i) (c.leave.ensures.ledger i) b.tallies b.used) ∙ ap (leaves (growing_of b) a t) (here p) in
-    ((depart_answered growing_layout growing_lays (growing_of b) b.sound C a t p _ ok path).kept, tt)
+    record { sound = (depart_answered growing_layout growing_lays (growing_of b) b.sound C a t p _ ok path).kept }
 
 pub returns : goal.returns
 returns c =

@@ -41,7 +41,7 @@ invariant_of-self-2 c =
     let path : C ≡ opens growing_layout (growing_of b) =
     (λ i. growing_tables (c.open_root-tally.ensures.nodes i) (c.open_root-tally.ensures.ledger i) b.tallies b.used)
     ∙ ap (λ (r : ℕ). growing_tables (set b.nodes.now r (root_node b.ledger.opened)) (ledgers.opens b.ledger) b.tallies b.used) (first b.ledger.opened) in
-    ((open_answered growing_layout growing_lays (growing_of b) b.sound C _ (b.ledger.opened, b.ledger.opened) ok refl path).kept, tt)
+    record { sound = (open_answered growing_layout growing_lays (growing_of b) b.sound C _ (b.ledger.opened, b.ledger.opened) ok refl path).kept }
 
 pub returns : goal.returns
 returns c =

@@ -103,12 +103,11 @@ link-requires c =
 
 pub invariant_of-self-in-Grow : goal.invariant_of-self-in-Grow
 invariant_of-self-in-Grow c =
-    let b = c.args.self.now in (
-      (grown b c.args.agent _ (sym c.may_turn.ensures ∙ c.in_ok-may_turn.was) c.index-ledger-agent.result
+    let b = c.args.self.now in record {
+      sound = (grown b c.args.agent _ (sym c.may_turn.ensures ∙ c.in_ok-may_turn.was) c.index-ledger-agent.result
           (growing_tables c.link.new.nodes c.put.new.self b.tallies c.link.result) c.in-Grow.side c.in-Grow.coin c.in-Grow.is
-          (λ i. growing_tables (c.link.ensures.nodes i) (c.put.ensures i) b.tallies (c.link.ensures.used i))).kept,
-      tt,
-    )
+          (λ i. growing_tables (c.link.ensures.nodes i) (c.put.ensures i) b.tallies (c.link.ensures.used i))).kept;
+    }
 
 pub returns-in-Grow : goal.returns-in-Grow
 returns-in-Grow c =
@@ -145,11 +144,10 @@ invariant_of-self-in-Fork c =
     let d = c.index-ledger-agent.result in
     let is = read_is b a _ ok d c.index-nodes-errand.result (ap begins c.in-Fork.is) in
     let e = get_or b.ledger.errands a d in
-    let path = c.put-in-Fork.ensures ∙ ap (moves b.ledger a) (c.fork.ensures ∙ ap (λ (m : Node). forked c.in-Fork.side (twins e.node m.left) e) is) in (
-      (parted b a _ ok d (growing_tables b.nodes.now c.put-in-Fork.new.self b.tallies b.used) c.in-Fork.side c.in-Fork.is
-          (λ i. growing_tables b.nodes.now (path i) b.tallies b.used)).kept,
-      tt,
-    )
+    let path = c.put-in-Fork.ensures ∙ ap (moves b.ledger a) (c.fork.ensures ∙ ap (λ (m : Node). forked c.in-Fork.side (twins e.node m.left) e) is) in record {
+      sound = (parted b a _ ok d (growing_tables b.nodes.now c.put-in-Fork.new.self b.tallies b.used) c.in-Fork.side c.in-Fork.is
+          (λ i. growing_tables b.nodes.now (path i) b.tallies b.used)).kept;
+    }
 
 pub returns-in-Fork : goal.returns-in-Fork
 returns-in-Fork c =
@@ -180,11 +178,10 @@ invariant_of-self-in_default c =
     let a = c.args.agent in
     let ok = sym c.may_turn.ensures ∙ c.in_ok-may_turn.was in
     let mo = rest b a _ ok c.index-ledger-agent.result (growing_of b) c.in_default.not-Grow c.in_default.not-Fork in
-    let C = growing_tables c.climb-said.new.nodes c.climb-said.new.ledger b.tallies b.used in (
-      (climb_answered growing_layout growing_lays (growing_of b) b.sound C a (heard_of growing_layout (growing_of b) a) _ ok mo refl
-          (λ i. growing_tables (c.climb-said.ensures.nodes i) (c.climb-said.ensures.ledger i) b.tallies b.used)).kept,
-      tt,
-    )
+    let C = growing_tables c.climb-said.new.nodes c.climb-said.new.ledger b.tallies b.used in record {
+      sound = (climb_answered growing_layout growing_lays (growing_of b) b.sound C a (heard_of growing_layout (growing_of b) a) _ ok mo refl
+          (λ i. growing_tables (c.climb-said.ensures.nodes i) (c.climb-said.ensures.ledger i) b.tallies b.used)).kept;
+    }
 
 pub returns-in_default : goal.returns-in_default
 returns-in_default c =
