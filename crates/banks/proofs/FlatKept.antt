@@ -1,5 +1,5 @@
 -- What holds of the flat bank's tables between calls, and that it lasts.
-use Rattle.std.proofs.Common.{◌≡◌, ℕ, ◌+◌, ◌-◌, ◌<◌, ◌≤◌, true, false, List, length, sym, ap, subst, inl, inr, arith}
+use Rattle.std.proofs.Common.{◌≡◌, ℕ, ◌+◌, ◌<◌, ◌≤◌, true, false, List, length, sym, ap, subst, inl, inr, arith}
 use Rattle.std.proofs.lemmas.Bool.{cases_eq}
 use Rattle.banks.specs.declared.errand.Errand.{Errand}
 use Rattle.banks.specs.declared.flat.roots.Roots.{Roots}

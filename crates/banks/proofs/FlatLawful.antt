@@ -9,7 +9,6 @@ use Rattle.banks.specs.declared.errand.Errand.{Errand}
 use Rattle.banks.specs.declared.errand.Phase.{Phase}
 use Rattle.banks.specs.declared.errand.Phase.TheVariants.{Idle, Read, Raise, Open, Settle, Look, Lower}
 use Rattle.banks.specs.declared.node.Node.{Node}
-use Rattle.banks.specs.Counting.{one, sum}
 use Rattle.banks.specs.Errands.{no_errand}
 use Rattle.banks.specs.FlatTables.{roots, meaning, out_at, doing_by, doing_of, departs, goers, empty?, half?, by_word, lone_by, first_roots}
 use Rattle.banks.specs.Meaning.{Doing, idle, arriving, departing, Lawful, New}

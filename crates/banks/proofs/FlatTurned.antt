@@ -7,7 +7,7 @@ use Rattle.banks.specs.declared.errand.Said.{Said}
 use Rattle.banks.specs.declared.errand.Said.TheVariants.{Going, Arrived, Departed}
 use Rattle.banks.specs.declared.node.Node.{Node}
 use Rattle.banks.specs.Errands.{no_errand, idles}
-use Rattle.banks.specs.FlatTables.{doing_of, departs, goers, half?}
+use Rattle.banks.specs.FlatTables.{doing_of, departs, half?}
 use Rattle.banks.specs.Meaning.{arriving, departing, arrives}
 use Rattle.banks.specs.Tables.{no_node, at, job, turn_at, with_word, with_out, wrote, noted}
 use Rattle.banks.proofs.Counting.{one_same, at_set, but_set, part_le, true_false}
