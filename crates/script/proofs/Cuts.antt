@@ -1,6 +1,6 @@
 -- A text by its lines. Assumes nothing.
 use Rattle.std.proofs.Common.{◌≡◌, ℕ, ◌<◌, ◌≤◌, List, [], ◌∷◌, ◌++◌, length, take, drop, Result, sym, refl, ap, ◌∙◌, subst, inl, inr, ⊎_elim, arith, length-append, length-drop, take-append-drop}
-use Rattle.std.specs.List.{AllByRecursion as All}
+use Rattle.std.specs.List.{AllByRecursion}
 use Rattle.std.proofs.lemmas.List.{take_all}
 use Rattle.engine.specs.declared.call.Call.{Call}
 use Rattle.script.specs.declared.fault.Fault.{Fault}
@@ -9,17 +9,17 @@ use Rattle.script.specs.Lines.{Inner, Cut, Reads}
 use Rattle.script.proofs.Calls.{parsed_once}
 
 -- the line ends at a newline
-pub cut_within : (s line rest after : List ℕ) (k : ℕ) → line ≡ take k s → rest ≡ drop k s → All Inner (take k s) → rest ≡ 10 ∷ after → Cut s line after
+pub cut_within : (s line rest after : List ℕ) (k : ℕ) → line ≡ take k s → rest ≡ drop k s → AllByRecursion Inner (take k s) → rest ≡ 10 ∷ after → Cut s line after
 cut_within s line rest after k front back a f = record {
-  inner = subst (All Inner) (sym front) a;
+  inner = subst (AllByRecursion Inner) (sym front) a;
   ends = inl (sym (take-append-drop k s) ∙ ap (λ l. l ++ drop k s) (sym front) ∙ ap (λ l. line ++ l) (sym back ∙ f));
 }
 
 -- the line is the whole text
-pub cut_last : (s line rest : List ℕ) (k : ℕ) → line ≡ take k s → rest ≡ drop k s → All Inner (take k s) → length rest ≡ 0 → 0 < length s → k ≤ length s → Cut s line rest
+pub cut_last : (s line rest : List ℕ) (k : ℕ) → line ≡ take k s → rest ≡ drop k s → AllByRecursion Inner (take k s) → length rest ≡ 0 → 0 < length s → k ≤ length s → Cut s line rest
 cut_last s line [] k front back a z some within =
     let whole = front ∙ take_all k s (omega (arith, ap length back, length-drop k s)) in
-    record { inner = subst (All Inner) (sym front) a; ends = inr (sym whole, refl, subst (λ l. 0 < length l) (sym whole) some) }
+    record { inner = subst (AllByRecursion Inner) (sym front) a; ends = inr (sym whole, refl, subst (λ l. 0 < length l) (sym whole) some) }
 cut_last s line (c ∷ rest) k front back a z some within = absurd (omega arith)
 
 pub cut_shorter : (s l rest : List ℕ) → Cut s l rest → length rest < length s
@@ -27,7 +27,7 @@ cut_shorter s l rest h =
     ⊎_elim (λ e. omega (arith, ap length e, length-append l (10 ∷ rest)))
     (λ e. omega (arith, ap length e.0, ap length e.1, e.2)) h.ends
 
-inner_once : (l r m q : List ℕ) → l ++ (10 ∷ r) ≡ m ++ (10 ∷ q) → All Inner l → All Inner m → (l ≡ m) × (r ≡ q)
+inner_once : (l r m q : List ℕ) → l ++ (10 ∷ r) ≡ m ++ (10 ∷ q) → AllByRecursion Inner l → AllByRecursion Inner m → (l ≡ m) × (r ≡ q)
 inner_once [] r [] q e a b = let tail : r ≡ q = cc in (refl, tail)
 inner_once [] r (c ∷ m) q e a b = let same : c ≡ 10 = cc in absurd (b.0 same)
 inner_once (c ∷ l) r [] q e a b = let same : c ≡ 10 = cc in absurd (a.0 same)
@@ -39,7 +39,7 @@ inner_once (c ∷ l) r (d ∷ m) q e a b =
     let whole : c ∷ l ≡ d ∷ m = cc in
     (whole, rest.1)
 
-not_inner : (l r : List ℕ) → All Inner (l ++ (10 ∷ r)) → ⊥
+not_inner : (l r : List ℕ) → AllByRecursion Inner (l ++ (10 ∷ r)) → ⊥
 not_inner [] r a = a.0 refl
 not_inner (c ∷ l) r a = not_inner l r a.1
 
@@ -47,8 +47,8 @@ not_inner (c ∷ l) r a = not_inner l r a.1
 pub cut_once : (bs l r m q : List ℕ) → Cut bs l r → Cut bs m q → (l ≡ m) × (r ≡ q)
 cut_once bs l r m q p k =
     ⊎_elim
-    (λ e. ⊎_elim (λ f. inner_once l r m q (sym e ∙ f) p.inner k.inner) (λ f. absurd (not_inner l r (subst (All Inner) (sym f.0 ∙ e) k.inner))) k.ends)
-    (λ e. ⊎_elim (λ f. absurd (not_inner m q (subst (All Inner) (sym e.0 ∙ f) p.inner))) (λ f. (sym e.0 ∙ f.0, e.1 ∙ sym f.1)) k.ends)
+    (λ e. ⊎_elim (λ f. inner_once l r m q (sym e ∙ f) p.inner k.inner) (λ f. absurd (not_inner l r (subst (AllByRecursion Inner) (sym f.0 ∙ e) k.inner))) k.ends)
+    (λ e. ⊎_elim (λ f. absurd (not_inner m q (subst (AllByRecursion Inner) (sym e.0 ∙ f) p.inner))) (λ f. (sym e.0 ∙ f.0, e.1 ∙ sym f.1)) k.ends)
     p.ends
 
 -- the lines of bs spell rs, and then comes rest

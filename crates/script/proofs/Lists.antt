@@ -1,12 +1,12 @@
 -- Lists by their front and their elements. Assumes nothing.
 use Rattle.std.proofs.Common.{◌≡◌, ℕ, zero, suc, ◌+◌, ◌-◌, ◌<◌, ◌≤◌, List, [], ◌∷◌, ◌++◌, length, get_or, take, drop, sym, ap, ◌∙◌, subst, append_assoc, append-nil, arith}
-use Rattle.std.specs.List.{AllByRecursion as All}
+use Rattle.std.specs.List.{AllByRecursion}
 use Rattle.std.proofs.lemmas.List.{drop_more, drop_all, take_all}
 use Rattle.std.proofs.lemmas.Slice.{first_rest}
 use Rattle.script.specs.Spelling.{placed}
 
-pub all_whole : (P : ℕ → Type 0) (s : List ℕ) (i : ℕ) → length s ≤ i → All P (take i s) → All P (take (length s) s)
-all_whole P s i h a = subst (All P) (take_all i s h ∙ sym (take_all (length s) s (omega arith))) a
+pub all_whole : (P : ℕ → Type 0) (s : List ℕ) (i : ℕ) → length s ≤ i → AllByRecursion P (take i s) → AllByRecursion P (take (length s) s)
+all_whole P s i h a = subst (AllByRecursion P) (take_all i s h ∙ sym (take_all (length s) s (omega arith))) a
 
 -- what the pattern `[c, tail @ ..]` says of a slice
 pub headed : (s : List ℕ) (c : ℕ) → 0 < length s → get_or s 0 0 ≡ c → s ≡ c ∷ take (length s - 1) (drop 1 s)

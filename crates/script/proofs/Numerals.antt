@@ -2,17 +2,17 @@
 use Rattle.std.proofs.Common.{◌≡◌, ℕ, ◌+◌, ◌-◌, ◌*◌, ◌<◌, ◌≤◌, List, [], ◌∷◌, ◌++◌, length, get_or, take, drop, Ok, Err, Option, Result, sym, refl, ap, ◌∙◌, subst, arith, take-append-drop, length-take, rules, MatchOption}
 use Rattle.std.specs.Result.{OkIff, result_ok}
 use Rattle.std.specs.Char.{IsAsciiDigit}
-use Rattle.std.specs.List.{AllByRecursion as All}
+use Rattle.std.specs.List.{AllByRecursion}
 use Rattle.std.proofs.lemmas.Str.Parse as shelf
 use Rattle.std.proofs.ByRecursion.{All-take}
 use Rattle.std.proofs.lemmas.List.{drop_more, drop_all}
 use Rattle.script.specs.Spelling.{value_on, Number, Past, Next}
 
-own : shelf.IsNumeralModel (All IsAsciiDigit) (value_on 0)
+own : shelf.IsNumeralModel (AllByRecursion IsAsciiDigit) (value_on 0)
 own = shelf.numerals_by_fold _ (search rules) value_on (search rules)
 
 -- the digits before the fifth write less than 10,000
-pub before_fifth : (ds : List ℕ) (i : ℕ) → All IsAsciiDigit ds → i < 5 → value_on 0 (take i ds) < 10000
+pub before_fifth : (ds : List ℕ) (i : ℕ) → AllByRecursion IsAsciiDigit ds → i < 5 → value_on 0 (take i ds) < 10000
 before_fifth ds i a h = shelf.digits_value_short own (take i ds) 4 (All-take IsAsciiDigit i ds a) (omega (arith, length-take i ds))
 
 pub value_on_push : (n : ℕ) (ds : List ℕ) (c : ℕ) → value_on n (ds ++ (c ∷ [])) ≡ value_on n ds * 10 + (c - 48)
@@ -20,7 +20,7 @@ value_on_push n [] c = refl
 value_on_push n (d ∷ ds) c = value_on_push (n * 10 + (d - 48)) ds c
 
 -- what is known of one to five digits, and of the number that they write at 16 bits
-pub written : {E : Type 0} (ds : List ℕ) (v : ℕ) (r : Result ℕ E) (o : Option ℕ) → All IsAsciiDigit ds → 0 < length ds → length ds ≤ 5 → v ≡ value_on 0 ds
+pub written : {E : Type 0} (ds : List ℕ) (v : ℕ) (r : Result ℕ E) (o : Option ℕ) → AllByRecursion IsAsciiDigit ds → 0 < length ds → length ds ≤ 5 → v ≡ value_on 0 ds
     → OkIff r (v < 65536) v → o ≡ result_ok r → MatchOption o ((n : ℕ) → Number ds n → ⊥) (λ n. Number ds n)
 written ds v (Ok n) o a some five is h e =
     subst (λ q. MatchOption q ((m : ℕ) → Number ds m → ⊥) (λ m. Number ds m)) (sym e)
@@ -36,7 +36,7 @@ pub past_end : (s : List ℕ) → Past (drop (length s) s)
 past_end s = subst Past (sym (drop_all (length s) s (omega arith))) tt
 
 -- a list has one longest front of digits
-front_once : (ds xs es ys : List ℕ) → ds ++ xs ≡ es ++ ys → All IsAsciiDigit ds → All IsAsciiDigit es → Past xs → Past ys → (ds ≡ es) × (xs ≡ ys)
+front_once : (ds xs es ys : List ℕ) → ds ++ xs ≡ es ++ ys → AllByRecursion IsAsciiDigit ds → AllByRecursion IsAsciiDigit es → Past xs → Past ys → (ds ≡ es) × (xs ≡ ys)
 front_once [] xs [] ys e a b p q = (refl, e)
 front_once [] xs (c ∷ es) ys e a b p q = absurd (subst Past e p b.0)
 front_once (c ∷ ds) xs [] ys e a b p q = absurd (subst Past (sym e) q a.0)
@@ -59,7 +59,7 @@ next_once bs m n xs ys p q =
 -- t has k digits at its front, and no more
 pub record Fronted (t : List ℕ) (k : ℕ) : Type 0 where
   pub within : k ≤ length t
-  pub all : All IsAsciiDigit (take k t)
+  pub all : AllByRecursion IsAsciiDigit (take k t)
   pub past : Past (drop k t)
 
 front_is : (s t : List ℕ) (k n : ℕ) (after : List ℕ) → s ≡ 32 ∷ t → Fronted t k → (p : Next s n after) → (take k t ≡ p.ds)

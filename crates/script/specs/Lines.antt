@@ -3,7 +3,7 @@
 --     Cut bs l rest        l is the first line of bs, and rest what comes after its newline
 --     Reads bs rs          the lines of bs spell rs, one after another
 use Rattle.std.specs.Prelude.{◌≡◌, ℕ, ◌<◌, ◌⊎◌, List, [], ◌∷◌, ◌++◌, length, Result}
-use Rattle.std.specs.List.{AllByRecursion as All}
+use Rattle.std.specs.List.{AllByRecursion}
 use Rattle.engine.specs.declared.call.Call.{Call}
 use Rattle.script.specs.declared.fault.Fault.{Fault}
 use Rattle.script.specs.Spelling.{Parsed}
@@ -13,7 +13,7 @@ Inner c = c ≡ 10 → ⊥
 
 -- the last newline is optional: a line that has none is the last, and is not empty
 pub record Cut (bs l rest : List ℕ) : Type 0 where
-  pub inner : All Inner l
+  pub inner : AllByRecursion Inner l
   pub ends : (bs ≡ l ++ (10 ∷ rest)) ⊎ ((bs ≡ l) × (rest ≡ []) × (0 < length l))
 
 abbrev pub Reads : List ℕ → List (Result Call Fault) → Type 0

@@ -9,7 +9,7 @@
 --     Names bs k           bs is the first line of a script over a bank of the kind k
 use Rattle.std.specs.Prelude.{◌≡◌, ℕ, zero, suc, ◌+◌, ◌-◌, ◌*◌, ◌<◌, ◌≤◌, List, [], ◌∷◌, ◌++◌, length, Ok, Err, Result, slice_index}
 use Rattle.std.specs.Char.{IsAsciiDigit}
-use Rattle.std.specs.List.{AllByRecursion as All}
+use Rattle.std.specs.List.{AllByRecursion}
 use Rattle.engine.specs.declared.call.Call.{Call}
 use Rattle.engine.specs.declared.call.Call.TheVariants.{Make, Take, Signal, Turn}
 use Rattle.script.specs.declared.fault.Fault.{Fault}
@@ -23,7 +23,7 @@ value_on n [] = n
 value_on n (c ∷ cs) = value_on (n * 10 + (c - 48)) cs
 
 pub record Number (ds : List ℕ) (n : ℕ) : Type 0 where
-  pub digits : All IsAsciiDigit ds
+  pub digits : AllByRecursion IsAsciiDigit ds
   pub some : 0 < length ds
   pub five : length ds ≤ 5
   pub value : n ≡ value_on 0 ds

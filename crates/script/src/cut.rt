@@ -1,6 +1,6 @@
 // The lines of a text.
 ghost use Rattle.std.specs.Prelude.{◌≡◌, ◌<◌, ◌≤◌, List, length, take, IfOk, Result, slice_index};
-ghost use Rattle.std.specs.List.{AllByRecursion as All};
+ghost use Rattle.std.specs.List.{AllByRecursion};
 ghost use Rattle.script.specs.Lines.{Inner, Cut, Reads};
 
 use crate::fault::Fault;
@@ -11,7 +11,7 @@ use std::alloc::{AllocError, Global};
 // How many bytes stand before the first newline, or in all.
 fn line_len(s: &[u8]) -> usize
     ensures within { result ≤ length s.now }
-    ensures inner { All Inner (take result s.now) }
+    ensures inner { AllByRecursion Inner (take result s.now) }
     ensures stops { result < length s.now → slice_index s.now result ≡ 10 }
 {
     for (i, b) in s.iter().enumerate() {

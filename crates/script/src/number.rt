@@ -1,7 +1,7 @@
 // The numbers of a line: each is one space and one to five digits.
 ghost use Rattle.std.specs.Prelude.{◌≡◌, ℕ, ◌≤◌, List, length, take, drop, MatchOption, MatchResult};
 ghost use Rattle.std.specs.Char.{IsAsciiDigit};
-ghost use Rattle.std.specs.List.{AllByRecursion as All};
+ghost use Rattle.std.specs.List.{AllByRecursion};
 ghost use Rattle.script.specs.Spelling.{Number, Past, Next, Numbers, placed};
 
 use crate::fault::Fault;
@@ -11,7 +11,7 @@ const MOST_DIGITS: usize = 5;
 // How many digits stand at the front of `s`.
 fn digits(s: &[u8]) -> usize
     ensures within { result ≤ length s.now }
-    ensures all { All IsAsciiDigit (take result s.now) }
+    ensures all { AllByRecursion IsAsciiDigit (take result s.now) }
     ensures past { Past (drop result s.now) }
 {
     for (i, b) in s.iter().enumerate() {
@@ -24,7 +24,7 @@ fn digits(s: &[u8]) -> usize
 
 // The number that the digits write, if they are few enough and it fits.
 fn value(ds: &[u8]) -> Option<u16>
-    requires { All IsAsciiDigit ds.now }
+    requires { AllByRecursion IsAsciiDigit ds.now }
     ensures { MatchOption result ((n : ℕ) → Number ds.now n → ⊥) (λ n. Number ds.now n) }
 {
     if ds.is_empty() || ds.len() > MOST_DIGITS {
