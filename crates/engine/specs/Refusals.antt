@@ -1,5 +1,5 @@
 -- What an engine refuses: each fault's layer and number, and the refusals of each call in their order.
---     layer_of f, number_of f          of the fault f; a bank's fault keeps its own
+--     layer_of f, number_of f         of the fault f; a bank's fault keeps its own
 --     bank_fault f                    the bank's fault that f carries
 --     refusal_of r                    the number of the fault in the result r, if any
 --     make_refusal s, take_refusal s n, signal_refusal s a n, turn_refusal s a

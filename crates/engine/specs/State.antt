@@ -1,8 +1,8 @@
 -- The state of an engine, and the states after its calls.
 --     State B                        an engine over a bank of type B
---     state_of e, fresh b             the state of the engine e; of a new engine over the bank b
---     task_at s n, pair_at s q         the task n, the pair q
---     hand_at s a                     the task that the agent a is busy with
+--     state_of e, fresh b            the state of the engine e; of a new engine over the bank b
+--     task_at s n, pair_at s q       the task n, the pair q
+--     hand_at s a                    the task that the agent a is busy with
 --     next s                         the lowest number that is not given out
 --     after_make s t p b             after a make that opened the tally t with its first place p; the bank is b
 --     after_take s n                 the task n is in hand

@@ -4,7 +4,7 @@
 --     Answer, Left, agent_of, word_of, answer_of             what a turn leaves: the agent, the word at its node, the answer
 --     same, bump                     whether two words are one; the next version
 --     step p s u                     one turn of the agent s, with p the parent of its node and u the word there
---     done, finish, climb, won-..    the cases of a turn: an arrival or a departure has ended, and what is won or lost
+--     done, finish, climb, won_..    the cases of a turn: an arrival or a departure has ended, and what is won or lost
 --     node s                         where an agent is
 --     up p z                         1 where the parent p is z
 --     weight, halves, count          of a word: all that it stands for; 1 if it is half; its count

@@ -1,6 +1,6 @@
 -- The fixed bank.
 --     fixed_of b                     its tables
---     FixedNew b                    b is new
+--     FixedNew b                     b is new
 --     fixed_means b                  what b means
 --     fixed_does b q r c             the call q is answered r, and takes b to c
 use Rattle.std.specs.Prelude.{◌≡◌}

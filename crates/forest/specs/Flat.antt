@@ -1,6 +1,6 @@
 -- The flat bank.
 --     flat_of b                      its tables
---     FlatNew b                     b is new
+--     FlatNew b                      b is new
 --     flat_means b                   what b means
 --     flat_does b q r c              the call q is answered r, and takes b to c
 use Rattle.std.specs.Prelude.{◌≡◌}

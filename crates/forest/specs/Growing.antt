@@ -1,6 +1,6 @@
 -- The growing bank.
 --     growing_of b                   its tables
---     GrowingNew N b                b is new, over a table of N nodes
+--     GrowingNew N b                 b is new, over a table of N nodes
 --     growing_means b                what b means
 --     growing_does b q r c           the call q is answered r, and takes b to c
 use Rattle.std.specs.Prelude.{◌≡◌, ℕ}

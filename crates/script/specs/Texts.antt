@@ -1,7 +1,7 @@
 -- What is printed of a refusal and of an answer.
 --     refusal_text line f   `no`, the line, and the layer and the number of f
 --     answer_text line a    what the engine's answer a to that line prints
---     row text             the text and a newline
+--     row text              the text and a newline
 use Rattle.std.specs.Prelude.{ℕ, List, ◌++◌, codes, decimal}
 use Rattle.engine.specs.declared.call.Answer.{Answer}
 use Rattle.engine.specs.declared.call.Answer.TheVariants.{Made, Taken, Signalling, Going, Signalled, Ready, Refused}

@@ -1,7 +1,7 @@
 -- What is told of the lines of a script after the first.
 --     calls_in rs                   the calls among the lines rs
 --     page_from k rs answers        what is printed of the lines rs, which begin at line k, where the calls among them were answered so
---     Session means does b bs out  the bank b takes the calls among the lines of bs, and out is printed
+--     Session means does b bs out   the bank b takes the calls among the lines of bs, and out is printed
 use Rattle.std.specs.Prelude.{◌≡◌, ℕ, ◌+◌, List, [], ◌∷◌, ◌++◌, Ok, Err, Result}
 use Rattle.banks.specs.Calls.{Request, Reply}
 use Rattle.banks.specs.Meaning.{Meaning}
