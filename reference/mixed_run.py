@@ -302,9 +302,9 @@ def played(bank, steps, nodes):
             continue
         before = dict(bank.word)
         try:
-            answer = getattr(bank, step[0])(*step[1:])
+            answer = f"Ok({getattr(bank, step[0])(*step[1:])})"
         except Refusal as refusal:
-            answer = f"Refused({refusal})"
+            answer = f"Err({refusal})"
         writes = [node for node in bank.word if bank.word[node] != before[node]]
         assert len(writes) <= 1 and set(writes) <= set(nodes)
         yield step, answer, writes, [packed(bank.word[node]) for node in nodes]
@@ -338,9 +338,9 @@ def tables():
                 lines.append(f"    // {step}")
                 continue
             _, answer, writes, _ = next(rows)
-            change = "Same"
+            change = "None"
             for node in writes:
-                change = f"Put({node}, {hexed(packed(bank.word[node]))})"
+                change = f"Some(({node}, {hexed(packed(bank.word[node]))}))"
             lines.append(f"    ({shown(step)}, {answer}, {change}),")
         lines.append("];\n")
     return "\n".join(lines)

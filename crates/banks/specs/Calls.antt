@@ -41,7 +41,7 @@ DepartOf means b a t p (Err f) c = (depart_refusal (means b) a t p ≡ Some (num
 -- what a turn of a comes to
 abbrev pub ComesTo : Meaning → ℕ → Turned → Meaning → Type 0
 ComesTo m a came.Going w = Goes m a w
-ComesTo m a (came.Arrived q) w = (t : ℕ) × Arrived m a t q.0 q.1 q.2 w
+ComesTo m a (came.Arrived p l r) w = (t : ℕ) × Arrived m a t p l r w
 ComesTo m a (came.Departed drained) w = (t : ℕ) × Departed m a t drained w
 
 abbrev pub TurnOf : {B : Type 0} → (B → Meaning) → B → ℕ → Result Turned BankFault → B → Type 0

@@ -20,7 +20,7 @@ pub enum Turned {
     // The errand goes on.
     Going,
     // The arrival has ended: the place of its receipt, and the left and right places for later arrivals.
-    Arrived((u16, u16, u16)),
+    Arrived { place: u16, left: u16, right: u16 },
     // The departure has ended.
     Departed { drained: bool },
 }

@@ -1,4 +1,4 @@
-ghost use Rattle.std.specs.Prelude.{◌≡◌};
+ghost use Rattle.std.specs.Prelude.{◌≡◌, ℕ};
 ghost use Rattle.banks.specs.Meaning.{Meaning, Lawful};
 ghost use Rattle.banks.specs.Calls.{Request, Reply, OpenOf, ArriveOf, DepartOf, TurnOf, ReadOf};
 ghost use Rattle.banks.specs.Calls.{open_one, arrive as arriving, depart as departing, turn as turning, reading as asking};
@@ -18,6 +18,8 @@ pub trait Bank {
     // No lone number is above it; it is at most 2,000.
     const LONE_LIMIT: u16;
 
+    ghost LONE_LIMIT: { ℕ };
+
     // What the bank means.
     ghost means: { Self → Meaning };
 
@@ -26,14 +28,18 @@ pub trait Bank {
 
     // The limit on lone numbers.
     fn limit(&self) -> u16
-        ensures { result ≡ (means self.now).limit };
+        ensures { result ≡ (means self.now).limit }
+    {
+        Self::LONE_LIMIT
+    }
 
     // Opens the next tally, with one receipt out at its first place. Answers the tally and the place.
     fn open(&mut self) -> Result<(u16, u16), BankFault>
         ensures exact { does self.old open_one (answered result) self.new }
         ensures shows { OpenOf means self.old result self.new };
 
-    // Begins an arrival of the agent at a place of the tally.
+    // Begins an arrival of the agent at a place of the tally. Tally and place are two arguments, since callers keep them
+    // apart.
     fn arrive(
         &mut self,
         agent: u16,
@@ -60,4 +66,7 @@ pub trait Bank {
         ensures exact { does self.now (asking tally) (reads result) self.now }
         ensures shows { ReadOf (means self.now) tally result }
         ensures lawful { Lawful (means self.now) };
+
+    // The limit is the same in every state.
+    ghost limited: { (b : Self) → (means b).limit ≡ LONE_LIMIT };
 }

@@ -1,41 +1,31 @@
 ghost use Rattle.std.specs.Prelude.{◌≡◌};
 ghost use Rattle.banks.specs.Refusals.{number};
 
-// What a bank refuses.
+// What a bank refuses, each with its number in layer B.
 #[derive(Clone, Copy, PartialEq, Eq, Debug)]
 pub enum BankFault {
     // All tallies are open.
-    Full,
+    Full = 11,
     // The agent's number is above 15.
-    NoAgent,
+    NoAgent = 12,
     // The agent has an errand already.
-    HasErrand,
+    HasErrand = 13,
     // The agent has no errand.
-    Idle,
+    Idle = 14,
     // The tally is not open.
-    NotOpen,
+    NotOpen = 15,
     // The place is no arrival place of the tally.
-    NoPlace,
+    NoPlace = 16,
     // The tally's receipts out and arriving agents have come to 2,048.
-    Crowded,
+    Crowded = 17,
     // No receipt is out at the place.
-    NoReceipt,
+    NoReceipt = 18,
 }
 
 impl BankFault {
-    // Its number in layer B.
     pub fn number(self) -> u8
         ensures { result ≡ number self }
     {
-        match self {
-            BankFault::Full => 11,
-            BankFault::NoAgent => 12,
-            BankFault::HasErrand => 13,
-            BankFault::Idle => 14,
-            BankFault::NotOpen => 15,
-            BankFault::NoPlace => 16,
-            BankFault::Crowded => 17,
-            BankFault::NoReceipt => 18,
-        }
+        self as u8
     }
 }

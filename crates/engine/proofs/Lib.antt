@@ -1,5 +1,5 @@
-pub mod Options
 pub mod Lists
+pub mod Phases
 pub mod Sound
-pub mod Refusals
+pub mod Kept
 pub mod Steps

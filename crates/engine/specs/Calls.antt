@@ -5,6 +5,7 @@
 --     Opening .. b r c, Departing .., Turning ..      the bank b is asked, answers r, and is c then
 --     At s a n w                     the agent a is busy with the task n, which has come to w
 --     Under s n f t                  the task n is under f, which has the tally t
+--     Stakes s n t q                 what a signal of the task n departs from: its finish's tally t, and its pair q
 --     ErrandOf s a r                 r is the agent's task with its work, or why it has none
 --     Moves .. s a n w m z, Stops .. s a n w b        a turn at w comes to m, or is refused by the bank with b
 --     Leaves s a n d m z             a turn at leaving comes to m, where the bank's turn came to d
@@ -57,6 +58,9 @@ module _ {B : Type 0} where
   abbrev pub Under : State B → (n f t : ℕ) → Type 0
   Under s n f t = ((task_at s n).finish ≡ Some f) × ((task_at s f).tally ≡ Some t)
 
+  abbrev pub Stakes : State B → (n t q : ℕ) → Type 0
+  Stakes s n t q = (f : ℕ) × Under s n f t × ((task_at s n).pair ≡ Some q)
+
   abbrev pub ErrandOf : State B → ℕ → Result (ℕ × Work) EngineFault → Type 0
   ErrandOf s a (Ok e) = (turn_refusal s a ≡ None) × At s a e.0 e.1
   ErrandOf s a (Err f) = (turn_refusal s a ≡ Some (number_of f)) × (bank_fault f ≡ None)
@@ -64,7 +68,7 @@ module _ {B : Type 0} where
   abbrev pub Leaves : State B → (a n : ℕ) → Turned → Moved → State B → Type 0
   Leaves s a n came.Going m z = (m ≡ Going) × (z ≡ with_bank s z.bank)
   -- cannot come, since the agent is departing; but no fact of the engine alone says so
-  Leaves s a n (came.Arrived q) m z = (m ≡ Going) × (z ≡ with_bank s z.bank)
+  Leaves s a n (came.Arrived p l r) m z = (m ≡ Going) × (z ≡ with_bank s z.bank)
   Leaves s a n (came.Departed false) m z = (m ≡ Signalled) × (z ≡ after_leave s a n z.bank)
   Leaves s a n (came.Departed true) m z =
       (f : ℕ) × ((task_at s n).finish ≡ Some f) × (m ≡ Ready f) × (z ≡ after_last s a n f z.bank)
@@ -87,14 +91,12 @@ module _ {B : Type 0} (means : B → Meaning) (does : B → Request → Reply �
 
   abbrev pub Moves : State B → (a n : ℕ) → Work → Moved → State B → Type 0
   Moves s a n Begun m z =
-      (f t q : ℕ) × Under s n f t × ((task_at s n).pair ≡ Some q)
-      × Departing s.bank a t (claimed (pair_at s q)) (Ok tt) z.bank × (m ≡ Going) × (z ≡ after_claim s a n q z.bank)
+      (t q : ℕ) × Stakes s n t q × Departing s.bank a t (claimed (pair_at s q)) (Ok tt) z.bank × (m ≡ Going) × (z ≡ after_claim s a n q z.bank)
   Moves s a n Leaving m z = (d : Turned) × Turning s.bank a (Ok d) z.bank × Leaves s a n d m z
 
   abbrev pub Stops : State B → (a n : ℕ) → Work → BankFault → Type 0
   Stops s a n Begun b =
-      (f t q : ℕ) × Under s n f t × ((task_at s n).pair ≡ Some q)
-      × Departing s.bank a t (claimed (pair_at s q)) (Err b) s.bank
+      (t q : ℕ) × Stakes s n t q × Departing s.bank a t (claimed (pair_at s q)) (Err b) s.bank
   Stops s a n Leaving b = Turning s.bank a (Err b) s.bank
 
   abbrev pub WorkOf : State B → (a n : ℕ) → Work → Result Moved EngineFault → State B → Type 0

@@ -1,5 +1,4 @@
 // The calls of an engine, and what they answer.
-use crate::fault::EngineFault;
 
 #[derive(Clone, Copy, PartialEq, Eq, Debug)]
 pub enum Call {
@@ -9,17 +8,14 @@ pub enum Call {
     Turn(u16),
 }
 
+// What a call answers that is not refused.
 #[derive(Clone, Copy, PartialEq, Eq, Debug)]
 pub enum Answer {
     // The final task, and the root task under it.
     Made { finish: u16, root: u16 },
     Taken,
     Signalling,
-    // What a turn comes to.
-    Going,
-    Signalled,
-    Ready(u16),
-    Refused(EngineFault),
+    Moved(Moved),
 }
 
 // What a turn comes to.

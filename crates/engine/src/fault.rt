@@ -26,7 +26,7 @@ pub enum EngineFault {
 }
 
 impl EngineFault {
-    // The layer in which it arose.
+    // The layer in which it arose: a method, since the script prints it beside a number.
     pub fn layer(self) -> &'static str
         ensures { result.now ≡ layer_of self }
     {
@@ -36,7 +36,7 @@ impl EngineFault {
         }
     }
 
-    // Its number in that layer.
+    // Its number in that layer: written here, since an enum with a fault in it has no `as u8`.
     pub fn number(self) -> u8
         ensures { result ≡ number_of self }
     {
@@ -53,6 +53,7 @@ impl EngineFault {
     }
 }
 
+// By hand, since the contracts name the fault that `?` makes of the bank's.
 impl From<BankFault> for EngineFault {
     ghost from_gives = { λ b e. e ≡ FromBank b };
 

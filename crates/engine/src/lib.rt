@@ -5,6 +5,7 @@ pub mod call;
 pub mod engine;
 pub mod fault;
 pub mod runs;
+mod tables;
 pub mod task;
 
 pub use call::{Answer, Call, Moved};

@@ -1,10 +1,10 @@
 ghost use Rattle.std.specs.Prelude.{◌≡◌};
-ghost use Rattle.engine.specs.Tasks.{blank, no_pair, claimed};
+ghost use Rattle.engine.specs.Tasks.{claimed};
 
 use banks::Side;
 
 // How far a busy task's errand has come.
-#[derive(Clone, Copy)]
+#[derive(Clone, Copy, PartialEq, Eq, Debug)]
 pub enum Work {
     // A signal that has yet to claim its receipt.
     Begun,
@@ -12,7 +12,7 @@ pub enum Work {
     Leaving,
 }
 
-#[derive(Clone, Copy)]
+#[derive(Clone, Copy, PartialEq, Eq, Debug)]
 pub enum Phase {
     Unborn,
     // Its tally is not drained yet.
@@ -23,7 +23,7 @@ pub enum Phase {
     Done,
 }
 
-#[derive(Clone, Copy)]
+#[derive(Clone, Copy, PartialEq, Eq, Debug)]
 pub struct Task {
     pub phase: Phase,
     // The task that it is under.
@@ -37,7 +37,7 @@ pub struct Task {
 }
 
 // Two receipts, which two sibling tasks share: the mark says that the first is taken.
-#[derive(Clone, Copy)]
+#[derive(Clone, Copy, PartialEq, Eq, Debug)]
 pub struct Pair {
     pub first: u16,
     pub second: u16,
@@ -46,31 +46,23 @@ pub struct Pair {
 
 impl Task {
     // What stands at a number that is not given out.
-    pub(crate) fn blank() -> Task
-        ensures { result ≡ blank }
-    {
-        Task {
-            phase: Phase::Unborn,
-            finish: None,
-            tally: None,
-            place: 0,
-            side: Side::Left,
-            pair: None,
-        }
-    }
+    pub(crate) const BLANK: Task = Task {
+        phase: Phase::Unborn,
+        finish: None,
+        tally: None,
+        place: 0,
+        side: Side::Left,
+        pair: None,
+    };
 }
 
 impl Pair {
     // The pair of a round that is not made.
-    pub(crate) fn blank() -> Pair
-        ensures { result ≡ no_pair }
-    {
-        Pair {
-            first: 0,
-            second: 0,
-            mark: false,
-        }
-    }
+    pub(crate) const BLANK: Pair = Pair {
+        first: 0,
+        second: 0,
+        mark: false,
+    };
 
     // The receipt that a claim takes.
     pub(crate) fn receipt(self) -> u16

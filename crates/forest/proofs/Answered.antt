@@ -1,6 +1,6 @@
 -- A call that the tests of a bank let through: what it keeps, does exactly, and shows, of tables that are what the rules give.
 --     Answered L B q r C K           the call q takes sound tables B to sound tables C, is answered r exactly, and shows K
-use Rattle.std.proofs.Common.{◌≡◌, ℕ, ◌+◌, true, Some, Ok, Err, sym, refl, ◌∙◌, subst}
+use Rattle.std.proofs.Common.{◌≡◌, ℕ, ◌+◌, Some, Ok, Err, sym, refl, ◌∙◌, subst}
 use Rattle.banks.specs.declared.answer.Coin.{Coin}
 use Rattle.banks.specs.declared.answer.Reading.{Reading}
 use Rattle.banks.specs.declared.answer.Side.{Side}
@@ -8,17 +8,16 @@ use Rattle.banks.specs.declared.answer.Turned.{Turned}
 use Rattle.banks.specs.declared.fault.BankFault.{BankFault}
 use Rattle.banks.specs.Calls.{Request, open_one, arrive, depart, turn, reading, Reply, opened, begun, turned, reads, ComesTo, ReadOf}
 use Rattle.forest.specs.Layouts.{Layout, may_arrive, may_depart, opens, sends, leaves, turns, heard_of, read_by, zero?, performed}
-use Rattle.forest.specs.Ledgers.{job, may_open, may_turn, shut}
+use Rattle.forest.specs.Ledgers.{may_open, may_turn, shut}
 use Rattle.banks.specs.Meaning.{Opens, Arrives, Departs, open_refusal, arrive_refusal, turn_refusal}
 use Rattle.banks.specs.Refusals.{number}
 use Rattle.forest.specs.Shown.{meaning}
 use Rattle.forest.specs.Sound.{Sound}
-use Rattle.forest.specs.Tables.{Tables, climbs}
+use Rattle.forest.specs.Tables.{Tables}
 use Rattle.forest.proofs.CallShows.{open_keeps, open_shows, arrive_keeps, arrive_shows, depart_keeps, depart_shows, read_shows, read_refused}
-use Rattle.forest.proofs.Lays.{Lays}
+use Rattle.forest.specs.Lays.{Lays}
 use Rattle.forest.proofs.Refused.{told_ok, told_err, did, did_not, open_refused, arrive_refused, turn_refused}
-use Rattle.forest.proofs.Simulates.{moving}
-use Rattle.forest.proofs.TurnShows.{climbs_by, turn_kept, turn_shows}
+use Rattle.forest.proofs.TurnShows.{turn_kept, turn_shows}
 
 pub record Answered (L : Layout) (B : Tables) (q : Request) (r : Reply) (C : Tables) (K : Type 0) : Type 0 where
   pub kept : ∥ Sound L C ∥₁
@@ -67,11 +66,6 @@ module _ (L : Layout) (l : Lays L) (B : Tables) (s : ∥ Sound L B ∥₁) (C : 
             subst (λ (h : Turned). ComesTo (meaning L B) a h (meaning L C)) (sym e)
             (subst (λ (D : Tables). ComesTo (meaning L B) a (heard_of L B a) (meaning L D)) (sym f) (turn_shows L l B s a free));
       }
-
-  -- a turn that climbs or comes down
-  pub climb_answered : (a : ℕ) (m : Turned) (u : Unit {0}) → may_turn B.ledger a ≡ Ok u → moving (job B.ledger a).phase ≡ true → m ≡ heard_of L B a → C ≡ climbs B a
-      → Answered L B (turn a) (turned (Ok m)) C (ComesTo (meaning L B) a m (meaning L C))
-  climb_answered a m u ok mo e f = turn_answered a m u ok e (f ∙ sym (climbs_by (job B.ledger a).phase B a mo))
 
 -- a call that is refused: the number of its refusal, and exactly nothing done
 module _ (L : Layout) (l : Lays L) (B : Tables) where

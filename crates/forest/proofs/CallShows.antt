@@ -15,15 +15,17 @@ use Rattle.banks.specs.Meaning.{Meaning, arriving, departing, Opens, Arrives, De
 use Rattle.forest.specs.Shown.{meaning}
 use Rattle.forest.specs.Sound.{In, outs_of, Sound}
 use Rattle.forest.specs.Tables.{Tables}
-use Rattle.forest.proofs.Calling as calling
+use Rattle.forest.proofs.OpenKeeps.{open_grown, open_none, open_outs, open_outs_root, open_sound}
+use Rattle.forest.proofs.ArriveKeeps.{send_sound}
+use Rattle.forest.proofs.DepartKeeps.{leave_grown, leave_outs, leave_outs_node, leave_sound}
 use Rattle.forest.proofs.Changes.{outs_none, in_crew, same_grown}
 use Rattle.forest.proofs.Counting.{put_by, one_same, one_other}
-use Rattle.forest.proofs.Lays.{Lays}
+use Rattle.forest.specs.Lays.{Lays}
 use Rattle.forest.proofs.Lists.{le_from, nat_from, again}
 use Rattle.forest.proofs.Outs.{out_open, outs_in, out_is}
 use Rattle.forest.proofs.Refused.{told, told_err, Arriving, Departing, open_refused, arrive_refused, depart_refused, reading_refused, opens_low, arrives_so, departs_so}
 use Rattle.forest.proofs.Shows.{keeps, outs_still, outs_put, doings}
-use Rattle.forest.proofs.TurnShows.{grown_from}
+use Rattle.forest.proofs.GrowthShows.{grown_from}
 
 reads_by : (m : Meaning) (t : ℕ) (b : Bool) → reading_refusal m t ≡ None → m.zero? t ≡ b → ReadOf m t (Ok (read_by b))
 reads_by m t true free e = (free, e)
@@ -56,9 +58,9 @@ module _ (L : Layout) (l : Lays L) (B : Tables) (s : Sound L B) (low : B.ledger.
   next_outs p = elim (cases_eq (L.first o) p) [
     | inl e ↦
         let r : L.base o + p ≡ root L o = omega (arith, l.first o) in
-        ap (outs_of (opens L B).nodes o) r ∙ calling.open_outs_root L l B s low o ∙ one_same o o refl ∙ sym (one_same (L.first o) p e)
+        ap (outs_of (opens L B).nodes o) r ∙ open_outs_root L l B s low o ∙ one_same o o refl ∙ sym (one_same (L.first o) p e)
     | inr n ↦
-        calling.open_outs L l B s low o (L.base o + p) (λ e. n (let i : L.first o ≡ p = omega (arith, l.first o) in i)) ∙ none ∙ sym (one_other (L.first o) p n)
+        open_outs L l B s low o (L.base o + p) (λ e. n (let i : L.first o ≡ p = omega (arith, l.first o) in i)) ∙ none ∙ sym (one_other (L.first o) p n)
   ]
     where
       none : outs_of B.nodes o (L.base o + p) ≡ 0
@@ -71,19 +73,19 @@ module _ (L : Layout) (l : Lays L) (B : Tables) (s : Sound L B) (low : B.ledger.
   other_outs : (t z : ℕ) → (B.ledger.opened ≡ t → ⊥) → outs_of (opens L B).nodes t z ≡ outs_of B.nodes t z
   other_outs t z n = elim (cases_eq (root L o) z) [
     | inl e ↦
-        ap (outs_of (opens L B).nodes t) (sym e) ∙ calling.open_outs_root L l B s low t ∙ one_other o t n
-        ∙ sym (outs_none B.nodes t z (calling.open_none L l B s low z (top z (sym e))))
-    | inr m ↦ calling.open_outs L l B s low t z m
+        ap (outs_of (opens L B).nodes t) (sym e) ∙ open_outs_root L l B s low t ∙ one_other o t n
+        ∙ sym (outs_none B.nodes t z (open_none L l B s low z (top z (sym e))))
+    | inr m ↦ open_outs L l B s low t z m
   ]
 
 module _ (L : Layout) (l : Lays L) (B : Tables) (s : ∥ Sound L B ∥₁) where
   pub open_keeps : told (may_open B.tallies B.ledger) ≡ None → ∥ Sound L (opens L B) ∥₁
-  open_keeps free = again s (λ z. calling.open_sound L l B z (opens_low L l B free))
+  open_keeps free = again s (λ z. open_sound L l B z (opens_low L l B free))
 
   pub open_shows : told (may_open B.tallies B.ledger) ≡ None → Opens (meaning L B) (L.first B.ledger.opened) (meaning L (opens L B))
   open_shows free = record {
     free = open_refused L l B ∙ free;
-    keeps = keeps L l B C s s_c (grown_from B C (again s (λ z. calling.open_grown L l B z low))) (omega arith);
+    keeps = keeps L l B C s s_c (grown_from B C (again s (λ z. open_grown L l B z low))) (omega arith);
     opened = refl;
     out = put_by (meaning L B).out (meaning L C).out n (one (L.first n))
         (fun_ext (λ p. shown L l C s_c n p (omega arith) ∙ nat_from _ _ s (λ z. next_outs L l B z low p)))
@@ -117,7 +119,7 @@ module _ (L : Layout) (l : Lays L) (B : Tables) (s : ∥ Sound L B ∥₁) where
     so = arrives_so L l B a t p free
 
     pub arrive_keeps : ∥ Sound L (sends B a t (L.start a t p d c)) ∥₁
-    arrive_keeps = again s (λ z. calling.send_sound L l B z a t (L.start a t p d c) so.agent so.rests so.here so.room
+    arrive_keeps = again s (λ z. send_sound L l B z a t (L.start a t p d c) so.agent so.rests so.here so.room
         (l.starts B z a t p d c so.agent so.here so.place))
 
     pub arrive_shows : Arrives (meaning L B) a t p (meaning L (sends B a t (L.start a t p d c)))
@@ -147,22 +149,22 @@ module _ (L : Layout) (l : Lays L) (B : Tables) (s : ∥ Sound L B ∥₁) where
     in_x z = (gone.here, (l.has_in B z t p gone.here gone.place).0)
 
     pub depart_keeps : ∥ Sound L (leaves B a t (L.base t + p)) ∥₁
-    depart_keeps = again s (λ z. calling.leave_sound L l B z a t x gone.agent gone.rests (in_x z) gone.some)
+    depart_keeps = again s (λ z. leave_sound L l B z a t x gone.agent gone.rests (in_x z) gone.some)
 
     fewer_here : Sound L B → (k : ℕ) → outs_of B.nodes k x ≡ outs_of D.nodes k x + one t k
-    fewer_here z k = calling.leave_outs_node L l B z a t x gone.agent gone.rests (in_x z) gone.some k
+    fewer_here z k = leave_outs_node L l B z a t x gone.agent gone.rests (in_x z) gone.some k
 
     same_there : Sound L B → (k y : ℕ) → (k ≡ t → y ≡ x → ⊥) → outs_of D.nodes k y ≡ outs_of B.nodes k y
     same_there z k y n = elim (cases_eq x y) [
       | inl e ↦ omega (arith, fewer_here z k, one_other t k (λ i. n (sym i) (sym e)), ap (outs_of D.nodes k) e, ap (outs_of B.nodes k) e)
-      | inr m ↦ calling.leave_outs L l B z a t x gone.agent gone.rests (in_x z) gone.some k y m
+      | inr m ↦ leave_outs L l B z a t x gone.agent gone.rests (in_x z) gone.some k y m
     ]
 
     pub depart_shows : Departs (meaning L B) a t p (meaning L (leaves B a t (L.base t + p)))
     depart_shows = record {
       free = depart_refused L l B a t p ∙ free;
       keeps = keeps L l B D s depart_keeps
-          (grown_from B D (again s (λ z. calling.leave_grown L l B z a t x gone.agent gone.rests (in_x z) gone.some))) (omega arith);
+          (grown_from B D (again s (λ z. leave_grown L l B z a t x gone.agent gone.rests (in_x z) gone.some))) (omega arith);
       opened = refl;
       out = outs_put L l B D s depart_keeps refl t p ((meaning L B).out t p - 1) gone.here
           (nat_from _ _ s (λ z. omega (arith, fewer_here z t, one_same t t refl, shown L l B s t p gone.here)))

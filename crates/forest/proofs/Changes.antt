@@ -15,11 +15,11 @@ use Rattle.forest.specs.Ledgers.{job, ledger}
 use Rattle.banks.specs.Meaning.{arrives}
 use Rattle.forest.specs.Sound.{par_of, state_of, In, outs_of, comes, crowd, Sound}
 use Rattle.forest.specs.Tables.{Tables, at}
-use Rattle.forest.proofs.ClimbTrees.{above_in}
+use Rattle.forest.specs.Ancestors.{above_in}
 use Rattle.forest.proofs.Counting.{at_set, but_set, sum_but}
-use Rattle.forest.proofs.Lays.{Grown, Lays}
+use Rattle.forest.specs.Lays.{Grown, Lays}
 use Rattle.forest.proofs.Lists.{field_put, field_still, all_set}
-use Rattle.forest.proofs.Plans.{roots_one}
+use Rattle.forest.specs.Ancestors.{roots_one}
 
 -- ancestors stay where no parent changes
 pub above_more : (par more : ℕ → Option ℕ) → ((y q : ℕ) → par y ≡ Some q → more y ≡ Some q) → (r : ℕ) {z : ℕ} → Above par r z → Above more r z
@@ -148,6 +148,7 @@ module _ (B : Tables) (a : ℕ) (in_a : a < 16) (in_e : a < length B.ledger.erra
       tops = s.tops;
       spread = s.spread;
       full = s.full;
+      whole = s.whole;
       kin = s.kin;
       ready = s.ready;
       kept = s.kept;

@@ -6,7 +6,7 @@ use Rattle.forest.specs.Climb.{Word, empty, half, counted, Frame, frame, Arrival
 use Rattle.forest.specs.Climb.{left, up, weight, halves, kid, hold_arrival, hold, pend, Above, top, via, Chain, OkArrival, Ok, State, kids, held, pending, Inv}
 use Rattle.forest.specs.Climb.{fresh, opened, sent, left_by}
 use Rattle.forest.proofs.Counting.{one_same, one_other, put_same, put_other, sum_same, sum_none}
-use Rattle.forest.proofs.ClimbTrees.{some_none}
+use Rattle.forest.specs.Ancestors.{some_none}
 use Rattle.forest.proofs.ClimbTurns.{held_after, pending_after}
 
 pub blank_keeps : (par : ℕ → Option ℕ) (N M : ℕ) → Inv par N M fresh

@@ -7,7 +7,8 @@ use Rattle.forest.specs.Climb.{back, Agent, idle, arr, dep, going, Left, left, a
 use Rattle.forest.specs.Climb.{won_lower, step, node, halves, Above, top, via, Chain, OkArrival, OkBack, Ok, Down, State, Inv, turn, Counted}
 use Rattle.forest.specs.Lone.{won_cost, lost_cost, cost_settle, first, cost_frames, cost_back, lone_at, lone, Deep}
 use Rattle.forest.proofs.Counting.{put_same, put_other}
-use Rattle.forest.proofs.ClimbTrees.{some_none, back_above}
+use Rattle.forest.specs.Ancestors.{some_none}
+use Rattle.forest.proofs.ClimbTrees.{back_above}
 use Rattle.forest.proofs.ClimbFlow.{cas}
 use Rattle.forest.proofs.ClimbReads.{departs_from_counted}
 

@@ -7,7 +7,8 @@ use Rattle.forest.specs.Climb.{Agent, idle, arr, dep, departed, word_of, answer_
 use Rattle.forest.specs.Climb.{hold, meets, pends, pend_frames, pend_arrival, pend_back, pend, Above, top, via, Down, State, kids, held, pending, Inv, turn_at, turn}
 use Rattle.forest.specs.Climb.{departing, aim, Counted, Empty, Elsewhere}
 use Rattle.forest.proofs.Counting.{false_true, one_same, one_other, one_times, one_gone, one_le, put_same, part_le, sum_none, sum_le, sum_lt}
-use Rattle.forest.proofs.ClimbTrees.{above_in, some_none, elsewhere_none}
+use Rattle.forest.specs.Ancestors.{above_in, some_none}
+use Rattle.forest.proofs.ClimbTrees.{elsewhere_none}
 use Rattle.forest.proofs.ClimbAnswers.{leaving, Drains, drains_step}
 use Rattle.forest.proofs.ClimbTurns.{turn_keeps}
 

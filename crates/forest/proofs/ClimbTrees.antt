@@ -1,5 +1,5 @@
 -- Ancestors, and where an agent and its holdings are.
-use Rattle.std.proofs.Common.{◌≡◌, ℕ, ◌+◌, ◌<◌, ◌⊎◌, List, [], ◌∷◌, Some, None, Option, sym, refl, ap, ◌∙◌, subst, inl, inr, arith}
+use Rattle.std.proofs.Common.{◌≡◌, ℕ, ◌+◌, ◌<◌, ◌⊎◌, List, [], ◌∷◌, Some, Option, sym, refl, ap, ◌∙◌, subst, inl, inr, arith}
 use Rattle.banks.specs.Counting.{one}
 use Rattle.forest.specs.Climb.{Role, owner, helper, Frame, frame, Arrival, reads, raises, opens, settles, leave, back, Agent, idle, arr, dep, node, up, owns}
 use Rattle.forest.specs.Climb.{hold_frames, hold_arrival, hold, Above, top, via, Chain, OkArrival, OkBack, Ok, arriving, bottom, aim, Elsewhere}
@@ -9,26 +9,9 @@ pub above_up : (par : ℕ → Option ℕ) (x q : ℕ) → par x ≡ Some q → {
 above_up par x q e (top y h) = via y q (ap par h ∙ e) (top q refl)
 above_up par x q e (via y m h a) = via y m h (above_up par x q e a)
 
-pub above_in : (par : ℕ → Option ℕ) (r : ℕ) {y : ℕ} → Above par r y → (y ≡ r) ⊎ ((q : ℕ) × (par y ≡ Some q) × Above par r q)
-above_in par r (top y e) = inl e
-above_in par r (via y q e a) = inr (q, e, a)
-
 pub above_trans : (par : ℕ → Option ℕ) (r z : ℕ) → Above par r z → {y : ℕ} → Above par z y → Above par r y
 above_trans par r z b (top y e) = subst (Above par r) (sym e) b
 above_trans par r z b (via y q e a) = via y q e (above_trans par r z b a)
-
-pub some_none : (o : Option ℕ) (q : ℕ) → o ≡ Some q → o ≡ None → ⊥
-some_none o q e f = let c : ◌≡◌ {A = ℕ} 0 1 = cc in omega arith
-
-some_same : (o : Option ℕ) (p q : ℕ) → o ≡ Some p → o ≡ Some q → p ≡ q
-some_same o p q e f = cc
-
--- of a node below the root r, the parent is too
-pub above_parent : (par : ℕ → Option ℕ) (r x q : ℕ) → par r ≡ None → par x ≡ Some q → Above par r x → Above par r q
-above_parent par r x q o e a = elim (above_in par r a) [
-  | inl i ↦ absurd (some_none (par r) q (ap par (sym i) ∙ e) o)
-  | inr (m, i, b) ↦ subst (Above par r) (some_same (par x) m q i e) b
-]
 
 -- an arrival began below where it is
 pub chain_above : (par : ℕ → Option ℕ) (N x : ℕ) (fs : List Frame) → Chain par N x fs → Above par x (bottom x fs)

@@ -15,7 +15,7 @@ use Rattle.forest.specs.Lone.{Deep}
 use Rattle.banks.specs.Meaning.{Doing, idle, arriving, departing}
 use Rattle.forest.proofs.ClimbBounds.{chain_low}
 use Rattle.forest.proofs.Counting.{false_true}
-use Rattle.forest.proofs.Simulates.{moving, sinking}
+use Rattle.forest.proofs.Moving.{moving, sinking}
 
 -- what an agent is doing, by its aim; in the growth turns it is arriving
 abbrev pub doing_as : ℕ → climb.Aim → ℕ → Doing
@@ -39,7 +39,7 @@ by_aim Lower x w zero l t = refl
 by_aim Lower x w (suc n) l t = refl
 
 pub doing_is : (e : Errand) → doing_of e ≡ doing_as (begins e.phase) (climb.aim (agent e)) e.tally
-doing_is e = by_aim e.phase e.node e.word e.height e.frames e.tally
+doing_is e = by_aim e.phase e.node e.word e.waiting.height e.waiting.frames e.tally
 
 -- an agent that moves is at its errand's node
 at_node : (p : Phase) (x : ℕ) (w : Word) (h : ℕ) (l : List Frame) → moving p ≡ true → climb.node (agent_by p x w h l) ≡ x
@@ -55,7 +55,7 @@ at_node Look x w h l m = refl
 at_node Lower x w h l m = refl
 
 pub node_is : (e : Errand) → moving e.phase ≡ true → climb.node (agent e) ≡ e.node
-node_is e m = at_node e.phase e.node e.word e.height e.frames m
+node_is e m = at_node e.phase e.node e.word e.waiting.height e.waiting.frames m
 
 arr_awake : (x : ℕ) (h : climb.Arrival) (fs : List climb.Frame) → climb.arr x h fs ≡ climb.idle → ⊥
 arr_awake x h fs e = let z : ◌≡◌ {A = ℕ} 0 1 = cc in omega arith
@@ -76,7 +76,7 @@ awake_by Look x w h l m e = dep_awake x _ _ e
 awake_by Lower x w h l m e = dep_awake x _ _ e
 
 pub awake : (e : Errand) → moving e.phase ≡ true → agent e ≡ climb.idle → ⊥
-awake e m = awake_by e.phase e.node e.word e.height e.frames m
+awake e m = awake_by e.phase e.node e.word e.waiting.height e.waiting.frames m
 
 -- an agent with an errand in the forest moves
 moves_by : (p : Phase) (x : ℕ) (w : Word) (h : ℕ) (l : List Frame) → (climb.aim (agent_by p x w h l) ≡ climb.none → ⊥) → moving p ≡ true
@@ -91,7 +91,7 @@ moves_by Look x w h l n = refl
 moves_by Lower x w h l n = refl
 
 pub moves_if : (e : Errand) → (climb.aim (agent e) ≡ climb.none → ⊥) → moving e.phase ≡ true
-moves_if e = moves_by e.phase e.node e.word e.height e.frames
+moves_if e = moves_by e.phase e.node e.word e.waiting.height e.waiting.frames
 
 pub calm_moving : (p : Phase) → moving p ≡ true → begins p ≡ 0
 calm_moving Idle m = refl
@@ -116,8 +116,8 @@ sinks_by Settle x w h l m = absurd (false_true m)
 sinks_by Look x w h l m = (climb.looks, refl)
 sinks_by Lower x w h l m = (climb.lowers (pred w.count) w.version, refl)
 
-pub sinks : (e : Errand) → sinking e.phase ≡ true → (d : climb.Departure) × (agent e ≡ climb.dep e.node d (back_to e.frames e.height))
-sinks e m = sinks_by e.phase e.node e.word e.height e.frames m
+pub sinks : (e : Errand) → sinking e.phase ≡ true → (d : climb.Departure) × (agent e ≡ climb.dep e.node d (back_to e.waiting.frames e.waiting.height))
+sinks e m = sinks_by e.phase e.node e.word e.waiting.height e.waiting.frames m
 
 -- there is room for one frame more where the parent is climbed to
 frames_long : (l : List Frame) (n : ℕ) → length (frames_to l n) ≡ n
@@ -139,8 +139,8 @@ module _ (par : ℕ → Option ℕ) (N : ℕ) (deep : ℕ → ℕ) (D : ℕ) (de
   room_by Look x w h l ok q e m = absurd (false_true m)
   room_by Lower x w h l ok q e m = absurd (false_true m)
 
-  pub room_up : (e : Errand) → climb.Ok par N (agent e) → (q : ℕ) → par e.node ≡ Some q → mounts e.phase ≡ true → e.height < 16
-  room_up e ok = room_by e.phase e.node e.word e.height e.frames ok
+  pub room_up : (e : Errand) → climb.Ok par N (agent e) → (q : ℕ) → par e.node ≡ Some q → mounts e.phase ≡ true → e.waiting.height < 16
+  room_up e ok = room_by e.phase e.node e.word e.waiting.height e.waiting.frames ok
 
 -- words
 pub counted_kind : (k : Kind) (n v : ℕ) → climb.Counted (cell_by k n v) → k ≡ Counted

@@ -24,10 +24,10 @@ use Rattle.forest.proofs.ClimbBounds.{lone_zero, lone_bounded}
 use Rattle.forest.proofs.ClimbReads.{held_counted, zero_empty}
 use Rattle.forest.proofs.Counting.{never}
 use Rattle.forest.proofs.Doings.{doing_as, doing_is, node_is, awake, moves_if, calm_moving, counted_kind}
-use Rattle.forest.proofs.Lays.{Lays}
+use Rattle.forest.specs.Lays.{Lays}
 use Rattle.forest.proofs.Lists.{le_from, nat_from, bool_from}
 use Rattle.forest.proofs.Outs.{out_open, outs_in, out_past, out_is}
-use Rattle.forest.proofs.Simulates.{moving}
+use Rattle.forest.proofs.Moving.{moving}
 use Rattle.forest.proofs.Turning.{down_is, root_none}
 
 -- Words
@@ -119,13 +119,13 @@ module _ (L : Layout) (l : Lays L) (B : Tables) where
   at_rest : (a : ℕ) → doing_of (e_of a) ≡ idle → lone_of L B (e_of a) ≡ 0
   at_rest a h =
       let e = e_of a in
-      rests e.phase L.depth (number a) e.height e.tally
-      (λ i. ap (λ (p : Phase). lone (λ y. (at B.nodes y).depth) (state_of B).words (agent_by p e.node e.word e.height e.frames)) i) h
+      rests e.phase L.depth (number a) e.waiting.height e.tally
+      (λ i. ap (λ (p : Phase). lone (λ y. (at B.nodes y).depth) (state_of B).words (agent_by p e.node e.word e.waiting.height e.waiting.frames)) i) h
 
   at_work : (a : ℕ) → lone_of L B (e_of a) ≡ 0 → doing_of (e_of a) ≡ idle
   at_work a h =
       let e = e_of a in
-      works_not e.phase L.depth (number a) e.height e.tally
+      works_not e.phase L.depth (number a) e.waiting.height e.tally
       (λ m z. awake e m ((lone_zero (λ y. (at B.nodes y).depth) (state_of B).words (agent e)).1 z)) h
 
   module _ (s : Sound L B) where

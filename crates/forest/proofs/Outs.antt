@@ -11,7 +11,7 @@ use Rattle.forest.specs.Sound.{In, outs_of, comes, crowd, Sound}
 use Rattle.forest.specs.Tables.{Tables, at}
 use Rattle.forest.proofs.Changes.{in_nodes}
 use Rattle.forest.proofs.Counting.{false_true, sum_none, sum_same}
-use Rattle.forest.proofs.Lays.{Lays}
+use Rattle.forest.specs.Lays.{Lays}
 
 -- a sum in two parts, and one whose second part is of nothing
 sum_split : (f : ℕ → ℕ) (b n : ℕ) → sum f (b + n) ≡ sum f b + sum (λ p. f (b + p)) n

@@ -14,7 +14,8 @@ use Rattle.forest.specs.declared.node.Node.{Node}
 use Rattle.forest.specs.Agents.{cell, agent, begins, doing_of, suits, Fit}
 use Rattle.forest.specs.Climb.{Inv, Above, top, Down, fresh, aim, arriving, departing}
 use Rattle.forest.specs.Climb as climb
-use Rattle.forest.specs.Errands.{no_frame, begun, no_errand}
+use Rattle.forest.specs.Errands.{begun, no_errand, idles}
+use Rattle.forest.specs.Waits.{no_frame}
 use Rattle.forest.specs.Layouts.{Layout, root}
 use Rattle.forest.specs.Ledgers.{first_ledger, job}
 use Rattle.banks.specs.Meaning.{arrives, idle}
@@ -22,7 +23,7 @@ use Rattle.forest.specs.Plans.{flat_layout, flat_first, growing_layout, growing_
 use Rattle.forest.specs.Sound.{par_of, state_of, outs_of, comes, crowd, Sound}
 use Rattle.forest.specs.Tables.{Tables, no_node, at}
 use Rattle.forest.proofs.ClimbCalls.{blank_keeps}
-use Rattle.forest.proofs.ClimbTrees.{above_in, some_none}
+use Rattle.forest.specs.Ancestors.{above_in, some_none}
 use Rattle.forest.proofs.Counting.{false_true, never, sum_none}
 
 -- The first ledger
@@ -39,13 +40,14 @@ pub first_idle : (a : ℕ) → doing_of (job first_ledger a) ≡ idle
 first_idle a = ap doing_of (blank_errands a)
 
 -- an errand that has just begun
-pub begun_fits : (p : Phase) (t x : ℕ) (l : ℕ × ℕ) → suits p Empty ≡ true → Fit (begun p t x l)
-begun_fits p t x l e = record {
+pub begun_fits : (p : Phase) (t x : ℕ) (l : ℕ × ℕ) → suits p Empty ≡ true → (idles p ≡ true → begun p t x l ≡ no_errand) → Fit (begun p t x l)
+begun_fits p t x l e rests = record {
   size = length-replicate 16 no_frame;
   short = omega arith;
   word = e;
   halves = (λ i l. absurd (omega arith));
   settles = (λ q. absurd (false_true (ap (λ p. suits p Empty) (sym q) ∙ e)));
+  rests = rests;
   flat = (λ e. refl);
 }
 
@@ -89,7 +91,7 @@ module _ (ns : List Node) (T u : ℕ) (b : Bare ns) where
   no_begins a = ap (λ (e : Errand). begins e.phase) (blank_errands a)
 
   -- all that is left to say is how the nodes are laid
-  pub first_sound : (L : Layout) → T ≤ 256 → u ≤ 8192 → u ≤ length ns → u ≡ L.width * T
+  pub first_sound : (L : Layout) → T ≤ 256 → u ≤ 8192 → u ≤ length ns → u ≡ L.width * T → (L.growth ≡ 0 → length ns ≡ u)
       → Down (par_of B) u
       → ((y q : ℕ) → par_of B y ≡ Some q → (at ns q).depth + 1 ≤ (at ns y).depth)
       → ((y : ℕ) → (at ns y).depth ≤ L.depth)
@@ -98,7 +100,7 @@ module _ (ns : List Node) (T u : ℕ) (b : Bare ns) where
       → ((t z : ℕ) → t < T → Above (par_of B) (root L t) z → (z ≡ root L t → T ≤ z) → (at ns z).tally ≡ t)
       → ((z : ℕ) → u ≤ z → at ns z ≡ no_node)
       → Sound L B
-  first_sound L many low fits laid down deep shallow tops spread ready unused = record {
+  first_sound L many low fits laid whole down deep shallow tops spread ready unused = record {
     crew = length-replicate 16 no_errand;
     listed = length-replicate {A = ℕ} 256 0;
     many = many;
@@ -112,6 +114,7 @@ module _ (ns : List Node) (T u : ℕ) (b : Bare ns) where
     tops = tops;
     spread = spread;
     full = (λ g. laid);
+    whole = whole;
     kin = (λ t z h. absurd (omega arith));
     ready = (λ t z o. ready t z);
     kept = (λ z h. absurd (omega (arith, b.out z)));
@@ -119,7 +122,7 @@ module _ (ns : List Node) (T u : ℕ) (b : Bare ns) where
     linked = (λ z l h. absurd (omega arith));
     unused = unused;
     inv = subst (Inv (par_of B) (length ns) 16) (sym state) (blank_keeps (par_of B) (length ns) 16);
-    fit = (λ a. subst Fit (sym (blank_errands a)) (begun_fits Idle 0 0 (0, 0) refl));
+    fit = (λ a. subst Fit (sym (blank_errands a)) (begun_fits Idle 0 0 (0, 0) refl (λ i. refl)));
     grows = (λ a. omega (arith, no_begins a));
     begun = (λ a h. absurd (omega (arith, no_begins a)));
     comer = (λ a y e. not_arriving a y e);
@@ -132,8 +135,8 @@ module _ (ns : List Node) (T u : ℕ) (b : Bare ns) where
 
 -- Nodes that nobody has used, a root alone for each tally
 
-blank_sound : (L : Layout) → L.width ≡ 1 → (N T : ℕ) → T ≤ N → T ≤ 256 → Sound L (first_tables (replicate N no_node) T T)
-blank_sound L w N T l m = first_sound ns T T bare L m (omega arith) (omega (arith, length-replicate N no_node)) (rw w (omega arith))
+blank_sound : (L : Layout) → L.width ≡ 1 → (N T : ℕ) → T ≤ N → T ≤ 256 → (L.growth ≡ 0 → N ≡ T) → Sound L (first_tables (replicate N no_node) T T)
+blank_sound L w N T l m whole = first_sound ns T T bare L m (omega arith) (omega (arith, length-replicate N no_node)) (rw w (omega arith)) (λ g. length-replicate N no_node ∙ whole g)
     (λ y q e. absurd (none y q e)) (λ y q e. absurd (none y q e)) (λ y. omega (arith, ap (λ (n : Node). n.depth) (at_blank y)))
     (λ t h. ap (λ (n : Node). n.parent) (at_blank (root L t))) (λ t p h i. top (root L t + p) (omega arith))
     (λ t z h a first. elim (above_in (λ z. (at ns z).parent) (root L t) a) [ inl e ↦ absurd (let f = first e in let v : L.width * t ≡ 1 * t = ap (λ k. k * t) w in omega arith) | inr (q, e, _) ↦ absurd (none z q e) ]) (λ z h. at_blank z)
@@ -151,7 +154,7 @@ blank_sound L w N T l m = first_sound ns T T bare L m (omega arith) (omega (arit
     none y q e = some_none (at ns y).parent q e (ap (λ (n : Node). n.parent) (at_blank y))
 
 pub flat_first_sound : Sound flat_layout flat_first
-flat_first_sound = blank_sound flat_layout refl 256 256 (omega arith) (omega arith)
+flat_first_sound = blank_sound flat_layout refl 256 256 (omega arith) (omega arith) (λ g. refl)
 
 pub growing_first_sound : (N : ℕ) → Sound growing_layout (growing_first N)
-growing_first_sound N = blank_sound growing_layout refl N (min 256 N) (omega arith) (omega arith)
+growing_first_sound N = blank_sound growing_layout refl N (min 256 N) (omega arith) (omega arith) (λ g. never (sym g))

@@ -10,7 +10,7 @@ use Rattle.forest.specs.Ledgers.{first_ledger}
 use Rattle.forest.specs.Plans.{fixed_layout, fixed_tables, fixed_parent, fixed_depth, fixed_node, Laid}
 use Rattle.forest.specs.Sound.{Sound}
 use Rattle.forest.specs.Tables.{no_node, at}
-use Rattle.forest.proofs.ClimbTrees.{some_none}
+use Rattle.forest.specs.Ancestors.{some_none}
 use Rattle.forest.proofs.PlansFirst.{Bare, first_sound}
 
 root_parent : (t p : ℕ) → p ≡ 0 → fixed_parent t p ≡ None
@@ -79,7 +79,7 @@ module _ (ns : List Node) (laid : Laid ns) where
   below t h (via z q e a) = let (l, n, i) = parent_of z q e in (l, omega (arith, n, i, (below t h a).1))
 
 pub fixed_first_sound : (ns : List Node) → Laid ns → Sound fixed_layout (fixed_tables ns first_ledger)
-fixed_first_sound ns laid = first_sound ns 256 3840 bare fixed_layout (omega arith) (omega arith) (omega (arith, laid.0)) refl
+fixed_first_sound ns laid = first_sound ns 256 3840 bare fixed_layout (omega arith) (omega arith) (omega (arith, laid.0)) refl (λ g. laid.0)
     (down ns laid) (deep ns laid) (each ns laid (λ n. n.depth ≤ 3) (λ t p. depth_most p) (omega arith)) tops (λ t p h l. spread ns laid 15 t p l h l)
     (λ t z h a first. let (l, e) = below ns laid t h a in ap (λ (m : Node). m.tally) (laid.1 z l) ∙ e) (past ns laid)
   where

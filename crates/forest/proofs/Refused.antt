@@ -18,7 +18,7 @@ use Rattle.banks.specs.Refusals.{number}
 use Rattle.forest.specs.Shown.{meaning}
 use Rattle.forest.specs.Sound.{Sound}
 use Rattle.forest.specs.Tables.{Tables, at}
-use Rattle.forest.proofs.Lays.{Lays}
+use Rattle.forest.specs.Lays.{Lays}
 use Rattle.forest.proofs.Lists.{nat_from}
 use Rattle.forest.proofs.Outs.{crowd_is}
 
@@ -77,7 +77,7 @@ turn_by true rests = refl
 turn_by false true = refl
 turn_by false false = refl
 
-not_below : (t o : ℕ) → leb o t ≡ not (ltb t o)
+pub not_below : (t o : ℕ) → leb o t ≡ not (ltb t o)
 not_below t o = grind (arith, nat_tests)
 
 -- an agent with an errand is in another phase than idle
@@ -144,7 +144,7 @@ pub record Departing (L : Layout) (B : Tables) (a t p : ℕ) : Type 0 where
 
 module _ (L : Layout) (l : Lays L) (B : Tables) where
   works_not : (a : ℕ) → works (doing_of (job B.ledger a)) ≡ not (idles (job B.ledger a).phase)
-  works_not a = let e = job B.ledger a in works_by e.phase e.height e.tally
+  works_not a = let e = job B.ledger a in works_by e.phase e.waiting.height e.tally
 
   pub open_refused : open_refusal (meaning L B) ≡ told (may_open B.tallies B.ledger)
   open_refused = rw (not_below B.ledger.opened B.tallies) (passes (ltb B.ledger.opened B.tallies) fault.Full)

@@ -13,7 +13,7 @@ use Rattle.forest.specs.Sound.{outs_of, Sound}
 use Rattle.forest.specs.Tables.{Tables}
 use Rattle.forest.proofs.Counting.{put_by, at_set, but_set}
 use Rattle.forest.proofs.Lawful.{lawful}
-use Rattle.forest.proofs.Lays.{Lays, Grown}
+use Rattle.forest.specs.Lays.{Lays, Grown}
 use Rattle.forest.proofs.Lists.{nat_from}
 use Rattle.forest.proofs.Outs.{out_is}
 

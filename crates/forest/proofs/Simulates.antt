@@ -1,5 +1,5 @@
 -- A turn of an errand is a turn of its agent in the counting forest.
-use Rattle.std.proofs.Common.{◌≡◌, ℕ, zero, suc, pred, ◌+◌, ◌-◌, ◌<◌, ◌≤◌, min, max, Bool, true, false, cond, ◌&&◌, eqb, leb, ◌⊎◌, List, ◌∷◌, length, get_or, set, Some, None, Option, sym, refl, ap, ◌∙◌, subst, inl, inr, add-one, arith, lit≤}
+use Rattle.std.proofs.Common.{◌≡◌, ℕ, zero, suc, pred, ◌+◌, ◌-◌, ◌<◌, ◌≤◌, min, max, Bool, true, false, cond, eqb, leb, List, ◌∷◌, length, get_or, set, Some, None, Option, sym, refl, ap, ◌∙◌, subst, inl, inr, arith, lit≤}
 use Rattle.std.proofs.lemmas.List.{length-set, get_or-set_same, get_or-set_other}
 use Rattle.std.proofs.lemmas.Simd.{length-replicate}
 use Rattle.std.proofs.lemmas.Bool.{cases_eq, cond-false, ne_eqb}
@@ -17,79 +17,18 @@ use Rattle.forest.specs.declared.errand.Phase.TheVariants.{Idle, Grow, Fork, Rea
 use Rattle.forest.specs.declared.errand.Role.{Role}
 use Rattle.forest.specs.declared.errand.Role.TheVariants.{Owner, Helper}
 use Rattle.forest.specs.declared.errand.Said.TheVariants.{Going}
-use Rattle.forest.specs.Agents.{cell, role_of, frame_of, frames_to, back_to, agent, said_of, after_of, begins, half?, suits, Fit}
+use Rattle.forest.specs.Agents.{cell, role_of, frames_to, back_to, agent, said_of, after_of, begins, half?, suits, Fit}
 use Rattle.forest.specs.Climb as climb
-use Rattle.forest.specs.Errands.{no_frame, no_errand, goes, writes, climbs, arrived, popped, resumes, resumed, departed, still, again, mounts, helps, opens_below, loses, lowers_by, turned}
+use Rattle.forest.specs.Errands.{no_errand, goes, writes, climbs, arrived, popped, resumes, resumed, departed, still, again, idles, mounts, helps, opens_below, loses, lowers_by, turned}
+use Rattle.forest.specs.Waits.{no_frame}
 use Rattle.forest.proofs.Counting.{false_true, never}
-
--- a turn that climbs or comes down
-abbrev pub moving : Phase → Bool
-moving Idle = false
-moving (Grow s c) = false
-moving (Fork s) = false
-moving Read = true
-moving Raise = true
-moving Open = true
-moving Settle = true
-moving Look = true
-moving Lower = true
-
--- a turn of a departure, or of an agent that gives back what it has at the parent
-abbrev pub sinking : Phase → Bool
-sinking Idle = false
-sinking (Grow s c) = false
-sinking (Fork s) = false
-sinking Read = false
-sinking Raise = false
-sinking Open = false
-sinking Settle = false
-sinking Look = true
-sinking Lower = true
-
--- Frames
-
-frames_set : (l : List Frame) (i : ℕ) (f : Frame) (n : ℕ) → n ≤ i → frames_to (set l i f) n ≡ frames_to l n
-frames_set l i f zero h = refl
-frames_set l i f (suc n) h =
-    let e : get_or (set l i f) n no_frame ≡ get_or l n no_frame = get_or-set_other l i n f no_frame (λ (q : n ≡ i). omega arith) in
-    let r : frames_to (set l i f) n ≡ frames_to l n = frames_set l i f n (omega arith) in
-    cc
-
-frames_push : (l : List Frame) (n : ℕ) (f : Frame) → n < length l → frames_to (set l n f) (n + 1) ≡ frame_of f ∷ frames_to l n
-frames_push l n f h =
-    let e : get_or (set l n f) n no_frame ≡ f = get_or-set_same l n f no_frame h in
-    let r : frames_to (set l n f) n ≡ frames_to l n = frames_set l n f n (omega arith) in
-    rw add-one cc
-
--- what a turn keeps of its errand: what it is for, unless it has ended
-pub record Carries (e : Errand) (r : After) : Type 0 where
-  pub fit : Fit r.errand
-  pub calm : begins r.errand.phase ≡ 0
-  pub goes : ((r.said ≡ Going) × (r.errand.tally ≡ e.tally) × (r.errand.later ≡ e.later)) ⊎ (r.errand ≡ no_errand)
-
--- two ways of one test
-by_test : {A C : Type 0} (P : A → C → Type 0) (b c : Bool) (x y : A) (u v : C) → c ≡ b → (b ≡ true → P x u) → (b ≡ false → P y v) → P (cond b x y) (cond c u v)
-by_test P true c x y u v e won lost = subst (λ (d : Bool). P x (cond d u v)) (sym e) (won refl)
-by_test P false c x y u v e won lost = subst (λ (d : Bool). P y (cond d u v)) (sym e) (lost refl)
-
--- the two compares agree on words of one kind
-same_empty : (m n a b : ℕ) → m ≤ 0 → n ≤ 0 → eqb a b ≡ (eqb 0 0 && (eqb m n && eqb b a))
-same_empty m n a b l k = grind (arith, nat_tests)
-
-same_half : (m n a b : ℕ) → m ≤ 0 → n ≤ 0 → eqb a b ≡ (eqb 1 1 && (eqb m n && eqb b a))
-same_half m n a b l k = grind (arith, nat_tests)
-
-same_counted : (m n a b : ℕ) → 1 ≤ m → 1 ≤ n → cond (eqb (pred n) (pred m)) (eqb a b) false ≡ (eqb 2 2 && (eqb m n && eqb b a))
-same_counted m n a b l k = grind (arith, nat_tests)
-
-same_tells : (k m n a b : ℕ) → (eqb k k && (eqb m n && eqb b a)) ≡ true → (m ≡ n) × (b ≡ a)
-same_tells k m n a b e = (grind (arith, nat_tests), grind (arith, nat_tests))
+use Rattle.forest.proofs.Moving.{Carries, by_test, frames_push, moving, same_counted, same_empty, same_half, same_tells, sinking}
 
 -- An errand by its parts
 
 module _ (t : ℕ) (l : ℕ × ℕ) (fs : List Frame) (long : length fs ≡ 16) where
   abbrev En : Phase → ℕ → Word → ℕ → Errand
-  En p x m h = record { phase = p; tally = t; node = x; word = m; later = l; height = h; frames = fs }
+  En p x m h = record { phase = p; tally = t; node = x; word = m; later = l; waiting = record { height = h; frames = fs } }
 
   abbrev Halves : ℕ → Type 0
   Halves h = (i : ℕ) → i < h → half? (get_or fs i no_frame).word.kind ≡ true
@@ -166,6 +105,7 @@ module _ (t : ℕ) (l : ℕ × ℕ) (fs : List Frame) (long : length fs ≡ 16) 
     word = refl;
     halves = (λ i k. let z : ⊥ = omega arith in absurd z);
     settles = (λ e. let z : ◌≡◌ {A = ℕ} 0 1 = cc in let n : ⊥ = omega arith in absurd n);
+    rests = (λ i. refl);
     flat = (λ e. refl);
   }
 
@@ -176,12 +116,13 @@ module _ (t : ℕ) (l : ℕ × ℕ) (fs : List Frame) (long : length fs ≡ 16) 
     word = hs n (omega arith);
     halves = hs;
     settles = (λ e. (omega arith, sym (ap (λ (f : Frame). f.node) (last_is n))));
+    rests = (λ i. absurd (false_true i));
     flat = (λ e. never e);
   }
 
   -- any phase but that of settling and the growth turns
-  fits : (p : Phase) (x : ℕ) (m : Word) (h : ℕ) → h ≤ 16 → Halves h → suits p m.kind ≡ true → (p ≡ Settle → ⊥) → begins p ≡ 0 → Fit (En p x m h)
-  fits p x m h low hs w n calm = record { size = long; short = low; word = w; halves = hs; settles = (λ e. absurd (n e)); flat = (λ e. never (sym calm ∙ e)) }
+  fits : (p : Phase) (x : ℕ) (m : Word) (h : ℕ) → h ≤ 16 → Halves h → suits p m.kind ≡ true → (p ≡ Settle → ⊥) → idles p ≡ false → begins p ≡ 0 → Fit (En p x m h)
+  fits p x m h low hs w n busy calm = record { size = long; short = low; word = w; halves = hs; settles = (λ e. absurd (n e)); rests = (λ i. absurd (false_true (sym busy ∙ i))); flat = (λ e. never (sym calm ∙ e)) }
 
   not_settle_read : Read ≡ Settle → ⊥
   not_settle_read e = let z : ◌≡◌ {A = ℕ} 0 1 = cc in omega arith
@@ -203,10 +144,10 @@ module _ (t : ℕ) (l : ℕ × ℕ) (fs : List Frame) (long : length fs ≡ 16) 
         subst (λ (r : After). Carries e (with_write w r)) (sym (arrived_suc p x m n)) (going_on (settler_at n) w (settler_fits n low hs) refl refl refl)
 
     reads_on : (x : ℕ) (m : Word) (h : ℕ) (w : Option Word) → h ≤ 16 → Halves h → Carries e (with_write w (goes (En Read x m h)))
-    reads_on x m h w low hs = going_on (En Read x m h) w (fits Read x m h low hs refl not_settle_read refl) refl refl refl
+    reads_on x m h w low hs = going_on (En Read x m h) w (fits Read x m h low hs refl not_settle_read refl refl) refl refl refl
 
     looks_on : (x : ℕ) (m : Word) (h : ℕ) (w : Option Word) → h ≤ 16 → Halves h → Carries e (with_write w (goes (En Look x m h)))
-    looks_on x m h w low hs = going_on (En Look x m h) w (fits Look x m h low hs refl not_settle_look refl) refl refl refl
+    looks_on x m h w low hs = going_on (En Look x m h) w (fits Look x m h low hs refl not_settle_look refl refl) refl refl refl
 
     resumes_carries : (r : Role) (m : Word) (n : ℕ) (w : Option Word) → n ≤ 16 → Halves n → Carries e (with_write w (resumes_at r m n))
     resumes_carries Owner m n w low hs = arrived_carries Read (fr n).node m n w low hs
@@ -259,6 +200,7 @@ module _ (t : ℕ) (l : ℕ × ℕ) (fs : List Frame) (long : length fs ≡ 16) 
               | inr d ↦ ap (λ (g : Frame). half? g.word.kind) (get_or-set_other fs h i f no_frame d) ∙ hs i (omega (arith, d))
             ]);
             settles = (λ s. absurd (not_settle_read s));
+            rests = (λ i. absurd (false_true i));
             flat = (λ s. never s);
           };
           calm = refl;
@@ -275,12 +217,12 @@ module _ (t : ℕ) (l : ℕ × ℕ) (fs : List Frame) (long : length fs ≡ 16) 
 
     reading : (m : Word) (k : Kind) (law : (least k ≤ n) × (n ≤ most k)) → ((q : ℕ) → up ≡ Some q → h < 16)
         → Sim (En Read x m h) (Wd k law) (turned Read k (En Read x m h) (Wd k law) up) (climb.step up (climb.arr x climb.reads fs') (cell (Wd k law)))
-    reading m Empty law room = (refl, going_on (En Read x m h) refl refl (En Open x (Wd Empty law) h) None (fits Open x (Wd Empty law) h low hs refl (λ s. absurd (apart s)) refl) refl refl refl)
+    reading m Empty law room = (refl, going_on (En Read x m h) refl refl (En Open x (Wd Empty law) h) None (fits Open x (Wd Empty law) h low hs refl (λ s. absurd (apart s)) refl refl) refl refl refl)
       where
         apart : Open ≡ Settle → ⊥
         apart s = let z : ◌≡◌ {A = ℕ} 0 1 = cc in omega arith
     reading m Half law room = read_half m law up room
-    reading m Counted law room = (refl, going_on (En Read x m h) refl refl (En Raise x (Wd Counted law) h) None (fits Raise x (Wd Counted law) h low hs refl (λ s. absurd (apart s)) refl) refl refl refl)
+    reading m Counted law room = (refl, going_on (En Read x m h) refl refl (En Raise x (Wd Counted law) h) None (fits Raise x (Wd Counted law) h low hs refl (λ s. absurd (apart s)) refl refl) refl refl refl)
       where
         apart : Raise ≡ Settle → ⊥
         apart s = let z : ◌≡◌ {A = ℕ} 0 1 = cc in omega arith
@@ -346,7 +288,7 @@ module _ (t : ℕ) (l : ℕ × ℕ) (fs : List Frame) (long : length fs ≡ 16) 
 
     looking : (m : Word) (law : (1 ≤ n) × (n ≤ 16383))
         → Sim (En Look x m h) (Wd Counted law) (turned Look Counted (En Look x m h) (Wd Counted law) up) (climb.step up (climb.dep x climb.looks (back_to fs h)) (cell (Wd Counted law)))
-    looking m law = (refl, going_on (En Look x m h) refl refl (En Lower x (Wd Counted law) h) None (fits Lower x (Wd Counted law) h low hs refl apart refl) refl refl refl)
+    looking m law = (refl, going_on (En Look x m h) refl refl (En Lower x (Wd Counted law) h) None (fits Lower x (Wd Counted law) h low hs refl apart refl refl) refl refl refl)
       where
         apart : Lower ≡ Settle → ⊥
         apart s = let z : ◌≡◌ {A = ℕ} 0 1 = cc in omega arith
@@ -408,7 +350,7 @@ module _ (t : ℕ) (l : ℕ × ℕ) (fs : List Frame) (long : length fs ≡ 16) 
     So w r u = (after_of w r ≡ u) × Carries e r
 
     kept : Fit e
-    kept = record { size = long; short = low; word = refl; halves = hs; settles = (λ s. (omega arith, here ∙ sym (ap (λ (f : Frame). f.node) (last_is i)))); flat = (λ s. never s) }
+    kept = record { size = long; short = low; word = refl; halves = hs; settles = (λ s. (omega arith, here ∙ sym (ap (λ (f : Frame). f.node) (last_is i)))); rests = (λ r. absurd (false_true r)); flat = (λ s. never s) }
 
     lost : (w : Word) (o : Option ℕ) → So w (loses o e) (climb.lost_settle o (role_of (fr i).role) x mv (frames_to fs i) (cell w))
     lost w None = (refl, going_on e refl refl e None kept refl refl refl)
@@ -441,7 +383,7 @@ module _ (t : ℕ) (l : ℕ × ℕ) (fs : List Frame) (long : length fs ≡ 16) 
 
 module _ (t : ℕ) (l : ℕ × ℕ) (fs : List Frame) (long : length fs ≡ 16) (x mc mv n v : ℕ) (narrow : mv < 65536) (small : v < 65536) (few : n < 16383) (up : Option ℕ) where
   abbrev Er : Phase → (j : Kind) → (least j ≤ mc) × (mc ≤ most j) → ℕ → Errand
-  Er p j law h = record { phase = p; tally = t; node = x; word = record { kind = j; count = mc; version = mv; lawful = law; narrow = narrow }; later = l; height = h; frames = fs }
+  Er p j law h = record { phase = p; tally = t; node = x; word = record { kind = j; count = mc; version = mv; lawful = law; narrow = narrow }; later = l; waiting = record { height = h; frames = fs } }
 
   abbrev Fo : (k : Kind) → (least k ≤ n) × (n ≤ most k) → Word
   Fo k law = record { kind = k; count = n; version = v; lawful = law; narrow = small }
@@ -488,8 +430,8 @@ module _ (t : ℕ) (l : ℕ × ℕ) (fs : List Frame) (long : length fs ≡ 16) 
   at_phase Lower Counted Counted h jl kl f mo si room = lowering t l fs long x h f.short f.halves mc mv n v narrow small few up jl kl
 
 pub simulates : (e : Errand) (w : Word) (up : Option ℕ) → Fit e → moving e.phase ≡ true → (sinking e.phase ≡ true → w.kind ≡ Counted) → w.count < 16383
-    → ((q : ℕ) → up ≡ Some q → mounts e.phase ≡ true → e.height < 16)
+    → ((q : ℕ) → up ≡ Some q → mounts e.phase ≡ true → e.waiting.height < 16)
     → (after_of w (turned e.phase w.kind e w up) ≡ climb.step up (agent e) (cell w)) × Carries e (turned e.phase w.kind e w up)
 simulates e w up f mo si few room =
-    at_phase e.tally e.later e.frames f.size e.node e.word.count e.word.version w.count w.version e.word.narrow w.narrow few up
-    e.phase e.word.kind w.kind e.height e.word.lawful w.lawful f mo si room
+    at_phase e.tally e.later e.waiting.frames f.size e.node e.word.count e.word.version w.count w.version e.word.narrow w.narrow few up
+    e.phase e.word.kind w.kind e.waiting.height e.word.lawful w.lawful f mo si room

@@ -25,13 +25,15 @@ use Rattle.forest.proofs.ClimbAnswers as answers
 use Rattle.forest.proofs.ClimbAnswers.{Room, tells_step, still_arriving, departs_on}
 use Rattle.forest.proofs.ClimbBounds.{count_bounded, kid_le, up_le}
 use Rattle.forest.proofs.ClimbReads.{departs_from_counted}
-use Rattle.forest.proofs.ClimbTrees.{above_parent, below_node, node_in}
+use Rattle.forest.specs.Ancestors.{above_parent}
+use Rattle.forest.proofs.ClimbTrees.{below_node, node_in}
 use Rattle.forest.proofs.ClimbTurns.{turn_keeps}
 use Rattle.forest.proofs.Counting.{one_same, one_other, one_cases, put_same, put_other, part_le, sum_same, sum_but, sum_cut}
 use Rattle.forest.proofs.Doings.{doing_as, doing_is, node_is, awake, moves_if, calm_moving, sinks, room_up, counted_kind, count_is}
-use Rattle.forest.proofs.Lays.{Lays, Grown}
+use Rattle.forest.specs.Lays.{Lays, Grown}
 use Rattle.forest.proofs.Lists.{field_put, all_set}
-use Rattle.forest.proofs.Simulates.{Carries, moving, sinking, simulates}
+use Rattle.forest.proofs.Moving.{Carries, moving, sinking}
+use Rattle.forest.proofs.Simulates.{simulates}
 use Rattle.forest.proofs.Writes.{size_after, field_after, word_after, out_after, still_after, At}
 
 -- of two ancestors of y, one a root, the root is above the other
@@ -117,7 +119,7 @@ module _ (L : Layout) (lays : Lays L) (B : Tables) (s : Sound L B) where
     pub node_low : (job B.ledger a).node < length B.nodes
     node_low = subst (λ (k : ℕ). k < N) here (node_in par N (agent e) ok (awake e mo))
 
-    pub room_left : (q : ℕ) → par_of B (job B.ledger a).node ≡ Some q → mounts (job B.ledger a).phase ≡ true → (job B.ledger a).height < 16
+    pub room_left : (q : ℕ) → par_of B (job B.ledger a).node ≡ Some q → mounts (job B.ledger a).phase ≡ true → (job B.ledger a).waiting.height < 16
     room_left = room_up par N (λ y. (at ns y).depth) L.depth s.deep s.shallow lays.shallow e ok
 
     -- an agent that looks or lowers is at a counted word
@@ -318,6 +320,7 @@ module _ (L : Layout) (lays : Lays L) (B : Tables) (s : Sound L B) where
       tops = (λ t l. parent_still (root L t) ∙ s.tops t l);
       spread = (λ t p l k. subst (λ (g : ℕ → Option ℕ). Above g (root L t) (root L t + p)) (sym pars) (s.spread t p l k));
       full = s.full;
+      whole = (λ g. size ∙ s.whole g);
       kin = (λ t z i. tally_still z ∙ s.kin t z (fro t z i));
       ready = (λ t z o l h n. tally_still z ∙ s.ready t z o l (subst (λ (g : ℕ → Option ℕ). Above g (root L t) z) pars h) n);
       kept = (λ z l. subst (λ (t : ℕ). In L C t z) (sym (tally_still z)) (to (at ns z).tally z (elim (cases_lt 0 (at ns z).out) [

@@ -19,7 +19,8 @@ use Rattle.forest.specs.declared.errand.Role.TheVariants.{Owner, Helper}
 use Rattle.forest.specs.declared.errand.Said.{Said}
 use Rattle.forest.specs.declared.errand.Said.TheVariants as said
 use Rattle.forest.specs.Climb as climb
-use Rattle.forest.specs.Errands.{no_frame, top}
+use Rattle.forest.specs.Errands.{no_errand, idles, top}
+use Rattle.forest.specs.Waits.{no_frame}
 use Rattle.banks.specs.Meaning.{Doing, idle, arriving, departing}
 
 abbrev pub cell_by : Kind → ℕ → ℕ → climb.Word
@@ -64,7 +65,7 @@ agent_by Look x w h l = climb.dep x climb.looks (back_to l h)
 agent_by Lower x w h l = climb.dep x (climb.lowers (pred w.count) w.version) (back_to l h)
 
 abbrev pub agent : Errand → climb.Agent
-agent e = agent_by e.phase e.node e.word e.height e.frames
+agent e = agent_by e.phase e.node e.word e.waiting.height e.waiting.frames
 
 abbrev pub said_of : Said → climb.Answer
 said_of said.Going = climb.going
@@ -106,7 +107,7 @@ doing_by Look h t = leaving h t
 doing_by Lower h t = leaving h t
 
 abbrev pub doing_of : Errand → Doing
-doing_of e = doing_by e.phase e.height e.tally
+doing_of e = doing_by e.phase e.waiting.height e.tally
 
 abbrev pub half? : Kind → Bool
 half? Empty = false
@@ -132,11 +133,13 @@ suits Lower Half = false
 suits Lower Counted = true
 
 pub record Fit (e : Errand) : Type 0 where
-  pub size : length e.frames ≡ 16
-  pub short : e.height ≤ 16
+  pub size : length e.waiting.frames ≡ 16
+  pub short : e.waiting.height ≤ 16
   pub word : suits e.phase e.word.kind ≡ true
   -- the words of the nodes that wait are half
-  pub halves : (i : ℕ) → i < e.height → half? (get_or e.frames i no_frame).word.kind ≡ true
-  pub settles : e.phase ≡ Settle → (0 < e.height) × (e.node ≡ (top e).node)
+  pub halves : (i : ℕ) → i < e.waiting.height → half? (get_or e.waiting.frames i no_frame).word.kind ≡ true
+  pub settles : e.phase ≡ Settle → (0 < e.waiting.height) × (e.node ≡ (top e).node)
+  -- an idle agent remembers nothing
+  pub rests : idles e.phase ≡ true → e ≡ no_errand
   -- no node waits in the growth turns
-  pub flat : begins e.phase ≡ 1 → e.height ≡ 0
+  pub flat : begins e.phase ≡ 1 → e.waiting.height ≡ 0

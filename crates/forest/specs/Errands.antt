@@ -3,7 +3,7 @@
 --     grower t x s c                 one that begins with the growth turns there, with its side and coin
 --     goer t x                       a departure from the node x
 --     turned p k e w up              the turn of e, which is in phase p, where the word w of kind k is found, at a node with the parent up
-use Rattle.std.specs.Prelude.{ℕ, ◌+◌, ◌-◌, Bool, true, false, cond, replicate, Some, None, Option, ◌==◌, nat_le, slice_index_or, slice_set}
+use Rattle.std.specs.Prelude.{ℕ, Bool, true, false, cond, Some, None, Option, ◌==◌, nat_le}
 use Rattle.words.specs.declared.kind.Kind.{Kind}
 use Rattle.words.specs.declared.kind.Kind.TheVariants.{Empty, Half, Counted}
 use Rattle.words.specs.declared.word.Word.{Word}
@@ -18,13 +18,11 @@ use Rattle.forest.specs.declared.errand.Phase.{Phase}
 use Rattle.forest.specs.declared.errand.Phase.TheVariants.{Idle, Grow, Fork, Read, Raise, Open, Settle, Look, Lower}
 use Rattle.forest.specs.declared.errand.Role.{Role}
 use Rattle.forest.specs.declared.errand.Role.TheVariants.{Owner, Helper}
+use Rattle.forest.specs.Waits.{none_waits, newest, pushed, dropped}
 use Rattle.forest.specs.declared.errand.Said.TheVariants.{Going, Arrived, Departed}
 
-abbrev pub no_frame : Frame
-no_frame = record { node = 0; role = Owner; word = blank }
-
 abbrev pub begun : Phase → ℕ → ℕ → ℕ × ℕ → Errand
-begun p t x l = record { phase = p; tally = t; node = x; word = blank; later = l; height = 0; frames = replicate 16 no_frame }
+begun p t x l = record { phase = p; tally = t; node = x; word = blank; later = l; waiting = none_waits }
 
 abbrev pub no_errand : Errand
 no_errand = begun Idle 0 0 (0, 0)
@@ -71,10 +69,10 @@ writes w r = record { errand = r.errand; write = Some w; said = r.said }
 
 -- on at another node, in another phase
 abbrev pub at_node : Phase → ℕ → Errand → Errand
-at_node p x e = record { phase = p; tally = e.tally; node = x; word = e.word; later = e.later; height = e.height; frames = e.frames }
+at_node p x e = record { phase = p; tally = e.tally; node = x; word = e.word; later = e.later; waiting = e.waiting }
 
 abbrev pub remembers : Phase → Word → Errand → After
-remembers p w e = goes (record { phase = p; tally = e.tally; node = e.node; word = w; later = e.later; height = e.height; frames = e.frames })
+remembers p w e = goes (record { phase = p; tally = e.tally; node = e.node; word = w; later = e.later; waiting = e.waiting })
 
 abbrev pub climbs : Role → Word → ℕ → Errand → After
 climbs r w up e = goes (record {
@@ -83,23 +81,22 @@ climbs r w up e = goes (record {
   node = up;
   word = e.word;
   later = e.later;
-  height = e.height + 1;
-  frames = slice_set e.frames e.height (record { node = e.node; role = r; word = w });
+  waiting = pushed (record { node = e.node; role = r; word = w }) e.waiting;
 })
 
 -- the newest node that waits
 abbrev pub top : Errand → Frame
-top e = slice_index_or e.frames (e.height - 1) no_frame
+top e = newest e.waiting
 
 -- the arrival at the node is done
 abbrev pub arrived : Errand → After
 arrived e =
-    cond (e.height == 0) (record { errand = no_errand; write = None; said = Arrived e.node })
-    (goes (record { phase = Settle; tally = e.tally; node = (top e).node; word = (top e).word; later = e.later; height = e.height; frames = e.frames }))
+    cond (e.waiting.height == 0) (record { errand = no_errand; write = None; said = Arrived e.node })
+    (goes (record { phase = Settle; tally = e.tally; node = (top e).node; word = (top e).word; later = e.later; waiting = e.waiting }))
 
 -- back at the newest node that waits, which waits no more
 abbrev pub popped : Errand → Errand
-popped e = record { phase = Read; tally = e.tally; node = (top e).node; word = e.word; later = e.later; height = e.height - 1; frames = e.frames }
+popped e = record { phase = Read; tally = e.tally; node = (top e).node; word = e.word; later = e.later; waiting = dropped e.waiting }
 
 -- its owner has arrived there, its helper reads the word anew
 abbrev pub resumes : Role → Errand → After
@@ -111,7 +108,7 @@ resumed e = resumes (top e).role (popped e)
 
 -- a departure is done
 abbrev pub departed : Bool → Errand → After
-departed drained e = cond (e.height == 0) (record { errand = no_errand; write = None; said = Departed drained }) (resumed e)
+departed drained e = cond (e.waiting.height == 0) (record { errand = no_errand; write = None; said = Departed drained }) (resumed e)
 
 abbrev pub helps : Word → Option ℕ → Errand → After
 helps w None e = goes e

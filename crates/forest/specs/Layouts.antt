@@ -88,7 +88,7 @@ turns B a = turns_by (job B.ledger a).phase B a
 -- what a turn is heard to say, with the places for the nodes
 abbrev pub heard : ℕ → ℕ × ℕ → Said → Turned
 heard base later Going = came.Going
-heard base later (Arrived x) = came.Arrived (x - base, later.0, later.1)
+heard base later (Arrived x) = came.Arrived (x - base) later.0 later.1
 heard base later (Departed drained) = came.Departed drained
 
 abbrev pub heard_of : Layout → Tables → ℕ → Turned

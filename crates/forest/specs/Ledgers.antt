@@ -1,6 +1,7 @@
 -- What a bank keeps beside its nodes: the errand of each agent, the load of each tally, how many tallies are open.
 --     first_ledger                   none open, all idle
 --     job l a, load_of l t           the errand of the agent a; the load of the tally t
+--     found l a                      the errand of the agent a, or the refusal of such a number
 --     may_open T l, free l a, shut l t, roomy l t, may_turn l a     whether a call is let through, or its refusal
 --     opens l, sends l a t e, takes l a t e, moves l a e            what a call leaves
 use Rattle.std.specs.Prelude.{ℕ, ◌+◌, ◌-◌, cond, List, replicate, Ok, Err, Result, nat_lt, slice_index, slice_index_or, slice_set}
@@ -27,6 +28,10 @@ Test = Result Unit BankFault
 
 abbrev pub may_open : ℕ → Ledger → Test
 may_open T l = cond (nat_lt l.opened T) (Ok tt) (Err Full)
+
+-- the errand of the agent a, if there is one of that number
+abbrev pub found : Ledger → ℕ → Result Errand BankFault
+found l a = cond (nat_lt 15 a) (Err NoAgent) (Ok (job l a))
 
 -- an agent that may begin an errand, a tally that is open, a tally that takes one more arrival
 abbrev pub free : Ledger → ℕ → Test

@@ -1,3 +1,4 @@
+pub mod Waits
 pub mod Errands
 pub mod Ledgers
 pub mod Tables
@@ -8,6 +9,12 @@ pub mod Layouts
 pub mod Sound
 pub mod Shown
 pub mod Plans
+pub mod Ancestors
+pub mod Lays
+pub mod Laws
+pub mod Groves
+pub mod Forests
+pub mod FlatTables
 pub mod Flat
 pub mod Fixed
 pub mod Growing

@@ -7,6 +7,7 @@ use Rattle.words.specs.Words.{blank}
 use Rattle.forest.specs.declared.ledger.Ledger.{Ledger}
 use Rattle.forest.specs.declared.node.Node.{Node}
 use Rattle.forest.specs.Errands.{comer, grower}
+use Rattle.forest.specs.Groves.{Grove}
 use Rattle.forest.specs.Layouts.{Layout}
 use Rattle.forest.specs.Ledgers.{first_ledger}
 use Rattle.forest.specs.Tables.{Tables, no_node, at}
@@ -29,6 +30,9 @@ flat_layout = record {
 
 abbrev pub flat_tables : List Node → Ledger → Tables
 flat_tables ns l = record { nodes = ns; ledger = l; tallies = 256; used = 256 }
+
+abbrev pub flat_grove : List Node → Grove
+flat_grove ns = record { nodes = ns; tallies = 256; used = 256 }
 
 abbrev pub flat_first : Tables
 flat_first = flat_tables (replicate 256 no_node) first_ledger
@@ -55,6 +59,9 @@ fixed_layout = record {
 
 abbrev pub fixed_tables : List Node → Ledger → Tables
 fixed_tables ns l = record { nodes = ns; ledger = l; tallies = 256; used = 3840 }
+
+abbrev pub fixed_grove : List Node → Grove
+fixed_grove ns = record { nodes = ns; tallies = 256; used = 3840 }
 
 abbrev pub fixed_parent : ℕ → ℕ → Option ℕ
 fixed_parent t p = cond (p == 0) None (Some (15 * t + (p - 1) / 2))
@@ -91,6 +98,9 @@ growing_layout = record {
 
 abbrev pub growing_tables : List Node → Ledger → ℕ → ℕ → Tables
 growing_tables ns l T u = record { nodes = ns; ledger = l; tallies = T; used = u }
+
+abbrev pub growing_grove : List Node → ℕ → ℕ → Grove
+growing_grove ns T u = record { nodes = ns; tallies = T; used = u }
 
 abbrev pub growing_first : ℕ → Tables
 growing_first N = growing_tables (replicate N no_node) first_ledger (min 256 N) (min 256 N)

@@ -53,7 +53,9 @@ pub record Sound (L : Layout) (B : Tables) : Type 0 where
   pub shallow : (y : ℕ) → (at B.nodes y).depth ≤ L.depth
   pub tops : (t : ℕ) → t < B.tallies → par_of B (root L t) ≡ None
   pub spread : (t p : ℕ) → t < B.tallies → p < L.width → Above (par_of B) (root L t) (root L t + p)
+  -- where trees do not grow, the nodes are those laid from the start
   pub full : L.growth ≡ 0 → B.used ≡ L.width * B.tallies
+  pub whole : L.growth ≡ 0 → length B.nodes ≡ B.used
   -- the nodes of a tree name its tally
   pub kin : (t z : ℕ) → In L B t z → (at B.nodes z).tally ≡ t
   -- the nodes of a tree that is not open yet name its tally too; but a root that stands among the first nodes, one for each tally, names it as it opens

@@ -59,9 +59,9 @@ noted (Departed drained) ns = ns
 -- what a turn of e asks of the nodes: they have its node, frames have room, and the place of an ended arrival is there
 pub record Able (ns : List Node) (e : Errand) : Type 0 where
   pub node : e.node < length ns
-  pub high : e.height ≤ 16
-  pub room : (up : ℕ) → (at ns e.node).parent ≡ Some up → mounts e.phase ≡ true → e.height < 16
-  pub waits : e.phase ≡ Settle → 0 < e.height
+  pub high : e.waiting.height ≤ 16
+  pub room : (up : ℕ) → (at ns e.node).parent ≡ Some up → mounts e.phase ≡ true → e.waiting.height < 16
+  pub waits : e.phase ≡ Settle → 0 < e.waiting.height
   pub place : (x : ℕ) → (turn_at ns e).said ≡ Arrived x → x < length ns
   pub few : (x : ℕ) → (turn_at ns e).said ≡ Arrived x → (at ns x).out < 65535
 
@@ -124,7 +124,7 @@ picked Left l = l.0
 picked Right l = l.1
 
 abbrev pub forked : Side → ℕ × ℕ → Errand → Errand
-forked s l e = record { phase = Read; tally = e.tally; node = picked s l; word = e.word; later = l; height = e.height; frames = e.frames }
+forked s l e = record { phase = Read; tally = e.tally; node = picked s l; word = e.word; later = l; waiting = e.waiting }
 
 abbrev pub forks : Tables → ℕ → Side → Tables
 forks B a s =

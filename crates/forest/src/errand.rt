@@ -1,11 +1,13 @@
+use crate::errand::frames::Frames;
 use banks::{Coin, Side};
 use words::Word;
 
+pub mod frames;
 pub mod turns;
 
 // What an errand does at its node in its next turn: one access, a read or a compare-and-set.
 #[derive(Clone, Copy)]
-pub(crate) enum Phase {
+pub enum Phase {
     // No errand.
     Idle,
     // About to arrive: links two children at its place, if it may.
@@ -28,14 +30,14 @@ pub(crate) enum Phase {
 
 // How an agent came to a half word: it opened it, or found it so and helps its owner.
 #[derive(Clone, Copy)]
-pub(crate) enum Role {
+pub enum Role {
     Owner,
     Helper,
 }
 
 // A node whose half word waits for an arrival at the parent.
 #[derive(Clone, Copy)]
-pub(crate) struct Frame {
+pub struct Frame {
     pub(crate) node: u16,
     pub(crate) role: Role,
     // The half word, as its agent remembers it.
@@ -45,20 +47,19 @@ pub(crate) struct Frame {
 // An agent's errand at a tally: where it is, the word that it remembers, and the nodes below that wait for it, the
 // newest last. While it settles the newest, or departs because it lost that, the newest still stands among them.
 #[derive(Clone, Copy)]
-pub(crate) struct Errand {
+pub struct Errand {
     pub(crate) phase: Phase,
     pub(crate) tally: u16,
     pub(crate) node: u16,
     pub(crate) word: Word,
     // The left and right places for later arrivals, which the end of an arrival answers.
     pub(crate) later: (u16, u16),
-    pub(crate) height: usize,
-    pub(crate) frames: [Frame; 16],
+    pub(crate) waiting: Frames,
 }
 
 // What a turn answers.
 #[derive(Clone, Copy)]
-pub(crate) enum Said {
+pub enum Said {
     Going,
     // An arrival at this node has ended.
     Arrived { node: u16 },
@@ -67,7 +68,7 @@ pub(crate) enum Said {
 
 // What a turn leaves: the errand, the word that it writes at its node, if any, and its answer.
 #[derive(Clone, Copy)]
-pub(crate) struct After {
+pub struct After {
     pub(crate) errand: Errand,
     pub(crate) write: Option<Word>,
     pub(crate) said: Said,

@@ -2,7 +2,8 @@ use words::Word;
 
 pub mod parts;
 
-// A node of a tally's tree.
+// A node of a tally's tree. Nodes name one another by their numbers in one table, since no crate of the library uses the
+// heap.
 #[derive(Clone, Copy)]
 pub struct Node {
     pub(crate) word: Word,

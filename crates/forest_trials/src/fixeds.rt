@@ -1,4 +1,5 @@
-use banks::{Bank, BankFault, Coin, Reading, Side, Turned};
+use crate::turns::{comes, goes, leaves};
+use banks::{Bank, BankFault, Coin, Reading, Side};
 use forest::Fixed;
 use std::process::Abort;
 use std::test::Fail;
@@ -7,34 +8,11 @@ fn arrive(bank: &mut Fixed, agent: u16) -> Result<(), BankFault> {
     bank.arrive(agent, 0, 0, Side::Left, Coin::Heads)
 }
 
-// So many turns that do not end the errand.
-fn goes(rt: &impl Abort, bank: &mut Fixed, agent: u16, turns: u16) {
-    for _ in 0..turns {
-        assert_eq!(rt; bank.turn(agent), Ok(Turned::Going));
-    }
-}
-
-// The arrival ends in the last of so many turns.
-fn comes(rt: &impl Abort, bank: &mut Fixed, agent: u16, turns: u16, place: u16) {
-    goes(rt, bank, agent, turns.saturating_sub(1));
-    assert_eq!(rt; bank.turn(agent), Ok(Turned::Arrived((place, 0, 0))));
-}
-
-// The departure ends in the last of so many turns.
-fn leaves(rt: &impl Abort, bank: &mut Fixed, agent: u16, turns: u16, drained: bool) {
-    goes(rt, bank, agent, turns.saturating_sub(1));
-    assert_eq!(rt; bank.turn(agent), Ok(Turned::Departed { drained }));
-}
-
 // The word of a node and the receipts out there.
 fn shows(rt: &impl Abort, bank: &Fixed, node: u16, word: u32, out: u16) -> Result<(), Fail> {
-    match bank.node(node) {
-        Some(node) => {
-            assert_eq!(rt; (node.word().pack(), node.out()), (word, out));
-            Ok(())
-        },
-        None => Err(Fail::new("no node")),
-    }
+    let node = bank.node(node).ok_or("no node")?;
+    assert_eq!(rt; (u32::from(node.word()), node.out()), (word, out));
+    Ok(())
 }
 
 #[test]
@@ -44,7 +22,7 @@ fn leaf_by_agent(rt: HostRuntime) -> Result<(), Fail> {
         bank.open()?;
         shows(&rt, &bank, 0, 0x8001_0000, 1)?;
         arrive(&mut bank, agent)?;
-        comes(&rt, &mut bank, agent, 11, leaf);
+        comes(&rt, &mut bank, agent, 11, (leaf, 0, 0));
         shows(&rt, &bank, leaf, 0x8001_0001, 1)?;
         shows(&rt, &bank, 0, 0x8002_0000, 1)?;
     }
@@ -59,7 +37,7 @@ fn second_tally(rt: HostRuntime) -> Result<(), Fail> {
     assert_eq!(rt; bank.open(), Ok((1, 0)));
     shows(&rt, &bank, 15, 0x8001_0000, 1)?;
     bank.arrive(9, 1, 0, Side::Right, Coin::Tails)?;
-    comes(&rt, &mut bank, 9, 11, 8);
+    comes(&rt, &mut bank, 9, 11, (8, 0, 0));
     for (node, word) in [
         (15, 0x8002_0000),
         (16, 0x8001_0001),
@@ -99,7 +77,7 @@ fn drains_from_a_leaf(rt: HostRuntime) -> Result<(), Fail> {
     let mut bank = Fixed::new();
     bank.open()?;
     arrive(&mut bank, 0)?;
-    comes(&rt, &mut bank, 0, 11, 7);
+    comes(&rt, &mut bank, 0, 11, (7, 0, 0));
     bank.depart(1, 0, 0)?;
     leaves(&rt, &mut bank, 1, 2, false);
     assert_eq!(rt; bank.reading(0), Ok(Reading::Held));
@@ -112,7 +90,7 @@ fn drains_from_a_leaf(rt: HostRuntime) -> Result<(), Fail> {
     shows(&rt, &bank, 7, 1, 0)?;
     shows(&rt, &bank, 0, 0, 0)?;
     arrive(&mut bank, 3)?;
-    comes(&rt, &mut bank, 3, 11, 10);
+    comes(&rt, &mut bank, 3, 11, (10, 0, 0));
     shows(&rt, &bank, 0, 0x8001_0001, 0)?;
     shows(&rt, &bank, 1, 0x8001_0002, 0)?;
     shows(&rt, &bank, 10, 0x8001_0001, 1)
@@ -132,12 +110,12 @@ fn helper_overtakes_owner(rt: HostRuntime) -> Result<(), Fail> {
     shows(&rt, &bank, 7, 0x4000_0001, 0)?;
     goes(&rt, &mut bank, 8, 1);
     shows(&rt, &bank, 7, 0x8001_0001, 0)?;
-    comes(&rt, &mut bank, 8, 2, 7);
+    comes(&rt, &mut bank, 8, 2, (7, 0, 0));
     shows(&rt, &bank, 7, 0x8002_0001, 1)?;
     // The owner arrives at node 3 too, loses its settle and gives that arrival back.
     goes(&rt, &mut bank, 0, 2);
     shows(&rt, &bank, 3, 0x8002_0001, 0)?;
-    comes(&rt, &mut bank, 0, 3, 7);
+    comes(&rt, &mut bank, 0, 3, (7, 0, 0));
     shows(&rt, &bank, 3, 0x8001_0001, 0)?;
     shows(&rt, &bank, 7, 0x8002_0001, 2)?;
     shows(&rt, &bank, 0, 0x8002_0000, 1)
@@ -153,14 +131,14 @@ fn owner_loses_settle(rt: HostRuntime) -> Result<(), Fail> {
     arrive(&mut bank, 8)?;
     goes(&rt, &mut bank, 0, 10);
     shows(&rt, &bank, 7, 0x4000_0001, 0)?;
-    comes(&rt, &mut bank, 8, 6, 7);
+    comes(&rt, &mut bank, 8, 6, (7, 0, 0));
     shows(&rt, &bank, 3, 0x8002_0001, 0)?;
     bank.depart(8, 0, 7)?;
     leaves(&rt, &mut bank, 8, 2, false);
     shows(&rt, &bank, 7, 0x8001_0001, 0)?;
     goes(&rt, &mut bank, 0, 2);
     shows(&rt, &bank, 3, 0x8002_0001, 0)?;
-    comes(&rt, &mut bank, 0, 1, 7);
+    comes(&rt, &mut bank, 0, 1, (7, 0, 0));
     shows(&rt, &bank, 3, 0x8001_0001, 0)?;
     shows(&rt, &bank, 7, 0x8001_0001, 1)?;
     bank.depart(5, 0, 7)?;

@@ -1,26 +1,8 @@
-use banks::{Bank, BankFault, Coin, Side, Turned};
+use crate::turns::{comes, goes, leaves};
+use banks::{Bank, BankFault, Coin, Side};
 use forest::{Fixed, Flat, Growing, Node};
 use std::process::Abort;
 use std::test::Fail;
-
-// So many turns that do not end the errand.
-fn goes(rt: &impl Abort, bank: &mut Growing<'_>, agent: u16, turns: u16) {
-    for _ in 0..turns {
-        assert_eq!(rt; bank.turn(agent), Ok(Turned::Going));
-    }
-}
-
-// The arrival ends in the last of so many turns.
-fn comes(rt: &impl Abort, bank: &mut Growing<'_>, agent: u16, turns: u16, places: (u16, u16, u16)) {
-    goes(rt, bank, agent, turns.saturating_sub(1));
-    assert_eq!(rt; bank.turn(agent), Ok(Turned::Arrived(places)));
-}
-
-// The departure ends in the last of so many turns.
-fn leaves(rt: &impl Abort, bank: &mut Growing<'_>, agent: u16, turns: u16, drained: bool) {
-    goes(rt, bank, agent, turns.saturating_sub(1));
-    assert_eq!(rt; bank.turn(agent), Ok(Turned::Departed { drained }));
-}
 
 // Agent 0 at a place of tally 0, heads and to the left, where the arrival comes to no empty node: two turns of
 // growth and two at the node.
@@ -57,13 +39,9 @@ fn misses(rt: &impl Abort, bank: &mut Growing<'_>, place: u16) {
 }
 
 fn shows(rt: &impl Abort, bank: &Growing<'_>, node: u16, word: u32) -> Result<(), Fail> {
-    match bank.node(node) {
-        Some(node) => {
-            assert_eq!(rt; node.word().pack(), word);
-            Ok(())
-        },
-        None => Err(Fail::new("no node")),
-    }
+    let node = bank.node(node).ok_or("no node")?;
+    assert_eq!(rt; u32::from(node.word()), word);
+    Ok(())
 }
 
 #[test]

@@ -7,3 +7,5 @@ mod fixeds;
 mod growings;
 #[cfg(test)]
 mod mixed;
+#[cfg(test)]
+mod turns;

@@ -1,5 +1,5 @@
 -- The numbers of a line, one after another. Assumes nothing.
-use Rattle.std.proofs.Common.{◌≡◌, ℕ, ◌<◌, List, [], ◌∷◌, ◌++◌, length, sym, refl, ap, ◌∙◌, subst, arith}
+use Rattle.std.proofs.Common.{◌≡◌, ℕ, ◌<◌, List, [], ◌∷◌, length, sym, refl, subst, arith}
 use Rattle.script.specs.Spelling.{Past, Next, Numbers}
 use Rattle.script.proofs.Numerals.{next_once}
 
@@ -23,38 +23,14 @@ numbers_once bs (m ∷ ms) (n ∷ ns) e p q =
     let here = same.0 in
     cc
 
--- bs is the numbers ns, and then rest
-abbrev pub Sofar : List ℕ → List ℕ → List ℕ → Type 0
-Sofar bs [] rest = bs ≡ rest
-Sofar bs (n ∷ ns) rest = (after : List ℕ) × Next bs n after × Sofar after ns rest
+pub numbers_cons : (bs : List ℕ) (n : ℕ) (after ns : List ℕ) → Next bs n after → Numbers after ns → Numbers bs (n ∷ ns)
+numbers_cons bs n after ns h k = (h.ds, after, h.cut, h.number, k)
 
-pub sofar_more : (bs ns rest : List ℕ) (n : ℕ) (after : List ℕ) → Sofar bs ns rest → Next rest n after → Sofar bs (ns ++ (n ∷ [])) after
-sofar_more bs [] rest n after h next = (after, subst (λ l. Next l n after) (sym h) next, refl)
-sofar_more bs (m ∷ ns) rest n after h next = (h.0, h.1, sofar_more h.0 ns rest n after h.2 next)
-
-pub sofar_all : (bs ns rest : List ℕ) → Sofar bs ns rest → length rest ≡ 0 → Numbers bs ns
-sofar_all bs [] [] h e = h
-sofar_all bs [] (c ∷ cs) h e = absurd (omega arith)
-sofar_all bs (n ∷ ns) rest h e = (h.1.ds, h.0, h.1.cut, h.1.number, sofar_all h.0 ns rest h.2 e)
-
--- where no number comes next, bs is no longer list of numbers
-pub sofar_stuck : (bs ns rest ms : List ℕ) → Sofar bs ns rest → ((n : ℕ) (after : List ℕ) → Next rest n after → ⊥) → length ns < length ms → Numbers bs ms → ⊥
-sofar_stuck bs [] rest [] h no_next l k = omega arith
-sofar_stuck bs [] rest (m ∷ ms) h no_next l k =
+pub numbers_tail : (bs : List ℕ) (n : ℕ) (after : List ℕ) (m : ℕ) (ms : List ℕ) → Next bs n after → Numbers bs (m ∷ ms) → Numbers after ms
+numbers_tail bs n after m ms h k =
     let first = first_number bs m ms k in
-    no_next m first.0 (subst (λ b. Next b m first.0) h first.1)
-sofar_stuck bs (n ∷ ns) rest [] h no_next l k = omega arith
-sofar_stuck bs (n ∷ ns) rest (m ∷ ms) h no_next l k =
-    let first = first_number bs m ms k in
-    let same = (next_once bs n m h.0 first.0 h.1 first.1).1 in
-    sofar_stuck h.0 ns rest ms h.2 no_next (omega arith) (subst (λ b. Numbers b ms) (sym same) first.2)
+    subst (λ b. Numbers b ms) (sym (next_once bs n m after first.0 h first.1).1) first.2
 
--- where something is left, bs is no list of as many numbers
-pub sofar_left : (bs ns rest ms : List ℕ) → Sofar bs ns rest → 0 < length rest → length ns ≡ length ms → Numbers bs ms → ⊥
-sofar_left bs [] rest [] h l e k = omega (arith, ap length (sym h ∙ k))
-sofar_left bs [] rest (m ∷ ms) h l e k = omega arith
-sofar_left bs (n ∷ ns) rest [] h l e k = omega arith
-sofar_left bs (n ∷ ns) rest (m ∷ ms) h l e k =
-    let first = first_number bs m ms k in
-    let same = (next_once bs n m h.0 first.0 h.1 first.1).1 in
-    sofar_left h.0 ns rest ms h.2 l (omega arith) (subst (λ b. Numbers b ms) (sym same) first.2)
+pub none_next : (bs ms : List ℕ) → ((n : ℕ) (after : List ℕ) → Next bs n after → ⊥) → 0 < length ms → Numbers bs ms → ⊥
+none_next bs [] no_next l k = omega arith
+none_next bs (m ∷ ms) no_next l k = let first = first_number bs m ms k in no_next m first.0 first.1

@@ -1,74 +1,39 @@
 -- A text by its lines. Assumes nothing.
-use Rattle.std.proofs.Common.{◌≡◌, ℕ, ◌<◌, ◌≤◌, List, [], ◌∷◌, ◌++◌, length, take, drop, Result, sym, refl, ap, ◌∙◌, subst, inl, inr, ⊎_elim, arith, length-append, length-drop, take-append-drop}
-use Rattle.std.specs.List.{AllByRecursion}
-use Rattle.std.proofs.lemmas.List.{take_all}
+use Rattle.std.proofs.Common.{◌≡◌, ℕ, ◌<◌, List, [], ◌∷◌, ◌++◌, length, Result, sym, refl, ap, ◌∙◌, subst, ⊎_elim, arith, length-append, append-nil}
+use Rattle.std.specs.Fn.{Called, Mut}
+use Rattle.std.specs.Iterator.{Drains}
+use Rattle.std.specs.Iterator.Adapters.{map_source, map_callee}
+use Rattle.std.specs.declared.iter.Map.{Map}
+use Rattle.std.proofs.lemmas.Iterator.{maps}
+use Rattle.std.specs.Borrow.{Bor}
 use Rattle.engine.specs.declared.call.Call.{Call}
+use Rattle.script.specs.declared.cut.Lines.{Lines}
 use Rattle.script.specs.declared.fault.Fault.{Fault}
 use Rattle.script.specs.Spelling.{Parsed}
-use Rattle.script.specs.Lines.{Inner, Cut, Reads}
+use Rattle.script.specs.Lines.{Inner, Cut, Cuts, Reads}
 use Rattle.script.proofs.Calls.{parsed_once}
-
--- the line ends at a newline
-pub cut_within : (s line rest after : List ℕ) (k : ℕ) → line ≡ take k s → rest ≡ drop k s → AllByRecursion Inner (take k s) → rest ≡ 10 ∷ after → Cut s line after
-cut_within s line rest after k front back a f = record {
-  inner = subst (AllByRecursion Inner) (sym front) a;
-  ends = inl (sym (take-append-drop k s) ∙ ap (λ l. l ++ drop k s) (sym front) ∙ ap (λ l. line ++ l) (sym back ∙ f));
-}
-
--- the line is the whole text
-pub cut_last : (s line rest : List ℕ) (k : ℕ) → line ≡ take k s → rest ≡ drop k s → AllByRecursion Inner (take k s) → length rest ≡ 0 → 0 < length s → k ≤ length s → Cut s line rest
-cut_last s line [] k front back a z some within =
-    let whole = front ∙ take_all k s (omega (arith, ap length back, length-drop k s)) in
-    record { inner = subst (AllByRecursion Inner) (sym front) a; ends = inr (sym whole, refl, subst (λ l. 0 < length l) (sym whole) some) }
-cut_last s line (c ∷ rest) k front back a z some within = absurd (omega arith)
+use Rattle.script.proofs.Lists.{front_once}
 
 pub cut_shorter : (s l rest : List ℕ) → Cut s l rest → length rest < length s
 cut_shorter s l rest h =
     ⊎_elim (λ e. omega (arith, ap length e, length-append l (10 ∷ rest)))
     (λ e. omega (arith, ap length e.0, ap length e.1, e.2)) h.ends
 
-inner_once : (l r m q : List ℕ) → l ++ (10 ∷ r) ≡ m ++ (10 ∷ q) → AllByRecursion Inner l → AllByRecursion Inner m → (l ≡ m) × (r ≡ q)
-inner_once [] r [] q e a b = let tail : r ≡ q = cc in (refl, tail)
-inner_once [] r (c ∷ m) q e a b = let same : c ≡ 10 = cc in absurd (b.0 same)
-inner_once (c ∷ l) r [] q e a b = let same : c ≡ 10 = cc in absurd (a.0 same)
-inner_once (c ∷ l) r (d ∷ m) q e a b =
-    let same : c ≡ d = cc in
-    let tail : l ++ (10 ∷ r) ≡ m ++ (10 ∷ q) = cc in
-    let rest = inner_once l r m q tail a.1 b.1 in
-    let front = rest.0 in
-    let whole : c ∷ l ≡ d ∷ m = cc in
-    (whole, rest.1)
-
-not_inner : (l r : List ℕ) → AllByRecursion Inner (l ++ (10 ∷ r)) → ⊥
-not_inner [] r a = a.0 refl
-not_inner (c ∷ l) r a = not_inner l r a.1
-
 -- a text has one first line
 pub cut_once : (bs l r m q : List ℕ) → Cut bs l r → Cut bs m q → (l ≡ m) × (r ≡ q)
 cut_once bs l r m q p k =
+    let once = λ (xs ys : List ℕ) (e : bs ≡ l ++ xs) (f : bs ≡ m ++ ys). front_once Inner l xs m ys (sym e ∙ f) p.inner k.inner in
+    let newline : Inner 10 → ⊥ = λ f. f refl in
     ⊎_elim
-    (λ e. ⊎_elim (λ f. inner_once l r m q (sym e ∙ f) p.inner k.inner) (λ f. absurd (not_inner l r (subst (AllByRecursion Inner) (sym f.0 ∙ e) k.inner))) k.ends)
-    (λ e. ⊎_elim (λ f. absurd (not_inner m q (subst (AllByRecursion Inner) (sym e.0 ∙ f) p.inner))) (λ f. (sym e.0 ∙ f.0, e.1 ∙ sym f.1)) k.ends)
+    (λ e. ⊎_elim
+    (λ f. let o = once (10 ∷ r) (10 ∷ q) e f newline newline in let tail = o.1 in let rest : r ≡ q = cc in (o.0, rest))
+    (λ f. let o = once (10 ∷ r) [] e (f.0 ∙ sym (append-nil m)) newline tt in let tail = o.1 in cc)
+    k.ends)
+    (λ e. ⊎_elim
+    (λ f. let o = once [] (10 ∷ q) (e.0 ∙ sym (append-nil l)) f tt newline in let tail = o.1 in cc)
+    (λ f. (sym e.0 ∙ f.0, e.1 ∙ sym f.1))
+    k.ends)
     p.ends
-
--- the lines of bs spell rs, and then comes rest
-abbrev pub Upto : List ℕ → List (Result Call Fault) → List ℕ → Type 0
-Upto bs [] rest = bs ≡ rest
-Upto bs (r ∷ rs) rest = (l : List ℕ) × (after : List ℕ) × Cut bs l after × Parsed l r × Upto after rs rest
-
-upto_next : (bs : List ℕ) (rs : List (Result Call Fault)) (rest l after : List ℕ) (r : Result Call Fault)
-    → Upto bs rs rest → Cut rest l after → Parsed l r → Upto bs (rs ++ (r ∷ [])) after
-upto_next bs [] rest l after r e cut p = (l, after, subst (λ b. Cut b l after) (sym e) cut, p, refl)
-upto_next bs (q ∷ rs) rest l after r e cut p = (e.0, e.1, e.2, e.3, upto_next e.1 rs rest l after r e.4 cut p)
-
-pub upto_more : (bs : List ℕ) (rs out : List (Result Call Fault)) (rest l after : List ℕ) (r : Result Call Fault)
-    → Upto bs rs rest → Cut rest l after → Parsed l r → out ≡ rs ++ (r ∷ []) → Upto bs out after
-upto_more bs rs out rest l after r e cut p pushed = subst (λ o. Upto bs o after) (sym pushed) (upto_next bs rs rest l after r e cut p)
-
-pub upto_all : (bs : List ℕ) (rs : List (Result Call Fault)) (rest : List ℕ) → Upto bs rs rest → length rest ≡ 0 → Reads bs rs
-upto_all bs [] [] e z = e
-upto_all bs [] (c ∷ cs) e z = absurd (omega arith)
-upto_all bs (r ∷ rs) rest e z = (e.0, e.1, e.2, e.3, upto_all e.1 rs rest e.4 z)
 
 -- a text spells one list of calls and faults
 pub reads_once : (bs : List ℕ) (rs qs : List (Result Call Fault)) → Reads bs rs → Reads bs qs → rs ≡ qs
@@ -80,3 +45,12 @@ reads_once bs (r ∷ rs) (q ∷ qs) p k =
     let here = parsed_once p.0 r q p.3 (subst (λ b. Parsed b q) (sym same.0) k.3) in
     let rest = reads_once p.1 rs qs p.4 (subst (λ b. Reads b qs) (sym same.1) k.4) in
     cc
+
+-- what a chain of `map` over the lines collects, where the closure reads each line
+module _ {F : Type 0} (g : Mut F (Bor (List ℕ) × Unit {0}) (Result Call Fault))
+    (says : (f : F) (l : Bor (List ℕ)) (r : Result Call Fault) (h : F) → Called g f (l, tt) r h → Parsed l.now r) where
+  pub reads_from : (s : Map Lines F) (rs : List (Result Call Fault)) → Drains (maps Cuts g) s rs → Reads (map_source s).0.now rs
+  reads_from s [] d = subst (λ (t : Map Lines F). (map_source t).0.now ≡ []) (sym d.1.1) d.1.2.0
+  reads_from s (r ∷ rs) d =
+      let first = d.1.1.1 in
+      (first.0.now, (map_source d.1.1.0).0.now, first.1, says (map_callee s) first.0 r (map_callee d.1.1.0) first.2, reads_from d.1.1.0 rs (d.0, (d.1.0, d.1.1.2, d.1.2)))

@@ -3,6 +3,3 @@ pub mod Numerals
 pub mod Counts
 pub mod Cuts
 pub mod Calls
-pub mod Openings
-pub mod Pages
-pub mod Sessions

@@ -1,16 +1,12 @@
--- The layer and the number of each fault.
---     code f               the layer where f arose, and its number there
-use Rattle.std.specs.Prelude.{ℕ, List, codes}
+-- What is printed of a fault: the layer where it arose, and its number there.
+--     fault_text f         the text of f
+use Rattle.std.specs.Prelude.{ℕ, List, ◌++◌, codes, decimal}
 use Rattle.engine.specs.Refusals.{layer_of, number_of}
 use Rattle.script.specs.declared.fault.Fault.{Fault}
 use Rattle.script.specs.declared.fault.Fault.TheVariants.{Unknown, Malformed, TooLong, Engine}
 
-pub record Code : Type 0 where
-  pub layer : List ℕ
-  pub number : ℕ
-
-abbrev pub code : Fault → Code
-code Unknown = record { layer = codes "S"; number = 21 }
-code Malformed = record { layer = codes "S"; number = 22 }
-code TooLong = record { layer = codes "S"; number = 23 }
-code (Engine e) = record { layer = layer_of e; number = number_of e }
+abbrev pub fault_text : Fault → List ℕ
+fault_text Unknown = codes "S 21"
+fault_text Malformed = codes "S 22"
+fault_text TooLong = codes "S 23"
+fault_text (Engine e) = layer_of e ++ (codes " " ++ decimal (number_of e))

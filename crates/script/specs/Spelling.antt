@@ -2,14 +2,13 @@
 --     Number ds n          the digits ds write the number n
 --     Next bs n after      bs is a space, the digits of n, and after, which goes on with no digit
 --     Numbers bs ns        bs is the numbers ns, each a space and its digits, and nothing else
---     placed i n a         the n elements of the array a from place i on
 --     Begins bs c          bs begins with the letter of the call c
 --     Spelled bs c         bs is the letter of c and its numbers
 --     Parsed bs r          r is the call that bs spells, or the fault of bs
+--     Decodes n r          r is the kind of bank with the number n, or the fault that there is none
 --     Names bs k           bs is the first line of a script over a bank of the kind k
-use Rattle.std.specs.Prelude.{◌≡◌, ℕ, zero, suc, ◌+◌, ◌-◌, ◌*◌, ◌<◌, ◌≤◌, List, [], ◌∷◌, ◌++◌, length, Ok, Err, Result, slice_index}
+use Rattle.std.specs.Prelude.{◌≡◌, ℕ, ◌+◌, ◌-◌, ◌*◌, ◌<◌, ◌≤◌, List, [], ◌∷◌, ◌++◌, length, All, IfSome, Ok, Err, Result, slice_get}
 use Rattle.std.specs.Char.{IsAsciiDigit}
-use Rattle.std.specs.List.{AllByRecursion}
 use Rattle.engine.specs.declared.call.Call.{Call}
 use Rattle.engine.specs.declared.call.Call.TheVariants.{Make, Take, Signal, Turn}
 use Rattle.script.specs.declared.fault.Fault.{Fault}
@@ -23,7 +22,7 @@ value_on n [] = n
 value_on n (c ∷ cs) = value_on (n * 10 + (c - 48)) cs
 
 pub record Number (ds : List ℕ) (n : ℕ) : Type 0 where
-  pub digits : AllByRecursion IsAsciiDigit ds
+  pub digits : All IsAsciiDigit ds
   pub some : 0 < length ds
   pub five : length ds ≤ 5
   pub value : n ≡ value_on 0 ds
@@ -31,8 +30,7 @@ pub record Number (ds : List ℕ) (n : ℕ) : Type 0 where
 
 -- no digit comes first
 abbrev pub Past : List ℕ → Type 0
-Past [] = Unit {0}
-Past (c ∷ cs) = IsAsciiDigit c → ⊥
+Past bs = IfSome (slice_get bs 0) (λ c. IsAsciiDigit c → ⊥)
 
 pub record Next (bs : List ℕ) (n : ℕ) (after : List ℕ) : Type 0 where
   pub ds : List ℕ
@@ -43,10 +41,6 @@ pub record Next (bs : List ℕ) (n : ℕ) (after : List ℕ) : Type 0 where
 abbrev pub Numbers : List ℕ → List ℕ → Type 0
 Numbers bs [] = bs ≡ []
 Numbers bs (n ∷ ns) = (ds : List ℕ) × (after : List ℕ) × (bs ≡ 32 ∷ (ds ++ after)) × Number ds n × Numbers after ns
-
-abbrev pub placed : ℕ → ℕ → List ℕ → List ℕ
-placed i zero a = []
-placed i (suc n) a = slice_index a i ∷ placed (i + 1) n a
 
 -- m, k, g and t, in this order
 abbrev pub letter : Call → ℕ
@@ -77,6 +71,11 @@ Parsed bs (Err (Engine e)) = ⊥
 
 abbrev pub kind_number : Kind → ℕ
 kind_number Flat = 0
+
+-- r is the kind of the number n, or the fault that no kind has it
+abbrev pub Decodes : ℕ → Result Kind Fault → Type 0
+Decodes n (Ok k) = kind_number k ≡ n
+Decodes n (Err e) = (e ≡ Unknown) × ((k : Kind) → kind_number k ≡ n → ⊥)
 
 -- the letter is b
 abbrev pub Names : List ℕ → Kind → Type 0

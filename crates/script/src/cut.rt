@@ -1,36 +1,41 @@
 // The lines of a text.
-ghost use Rattle.std.specs.Prelude.{◌≡◌, ◌<◌, ◌≤◌, List, length, take, IfOk, Result, slice_index};
-ghost use Rattle.std.specs.List.{AllByRecursion};
-ghost use Rattle.script.specs.Lines.{Inner, Cut, Reads};
+ghost use Rattle.std.specs.Prelude.{◌≡◌, List, [], length, IfOk, MatchOption, Result};
+ghost use Rattle.std.specs.Iterator.{at_most};
+ghost use Rattle.script.specs.Lines.{Cut, Reads, Cuts};
 
 use crate::fault::Fault;
 use crate::parse::parse;
 use engine::Call;
 use std::alloc::{AllocError, Global};
 
-// How many bytes stand before the first newline, or in all.
-fn line_len(s: &[u8]) -> usize
-    ensures within { result ≤ length s.now }
-    ensures inner { AllByRecursion Inner (take result s.now) }
-    ensures stops { result < length s.now → slice_index s.now result ≡ 10 }
+// The first line of a text and what comes after its newline, unless the text is empty.
+pub(crate) fn cut(s: &[u8]) -> Option<(&[u8], &[u8])>
+    ensures { MatchOption result (s.now ≡ []) (λ x. Cut s.now x.0.now x.1.now) }
 {
-    for (i, b) in s.iter().enumerate() {
-        if *b == b'\n' {
-            return i;
-        }
+    if s.is_empty() {
+        return None;
     }
-    s.len()
+    match s.iter().position(|b| *b == b'\n') {
+        Some(end) => Some((&s[..end], &s[end + 1..])),
+        None => Some((s, &[])),
+    }
 }
 
-// The first line of a text that is not empty, and what comes after its newline.
-pub(crate) fn cut(s: &[u8]) -> (&[u8], &[u8])
-    requires { 0 < length s.now }
-    ensures { Cut s.now result.0.now result.1.now }
-{
-    let (line, rest) = s.split_at(line_len(s));
-    match rest {
-        [_, after @ ..] => (line, after),
-        [] => (line, rest),
+// The lines of a text, one after another.
+#[derive(Drop)]
+struct Lines<'a>(&'a [u8]);
+
+impl<'a> Iterator for Lines<'a> {
+    type Item = &'a [u8];
+
+    ghost remaining = { λ s. at_most (length s.0.now) };
+
+    ghost next_gives = { Cuts };
+
+    fn next(&mut self) -> Option<&'a [u8]> {
+        let (line, rest) = cut(self.0)?;
+        self.0 = rest;
+        Some(line)
     }
 }
 
@@ -39,12 +44,5 @@ pub(crate) fn read_lines(heap: Global, text: &[u8]) -> Result<Vec<Result<Call, F
     ensures reads { IfOk result (λ v. Reads text.now v.items) }
     ensures once { IfOk result (λ v. (rs : List (Result Call Fault)) → Reads text.now rs → rs ≡ v.items) }
 {
-    let mut read = Vec::new(heap);
-    let mut rest = text;
-    while !rest.is_empty() {
-        let (line, after) = cut(rest);
-        read.push(parse(line))?;
-        rest = after;
-    }
-    Ok(read)
+    Lines(text).map(parse).collect(heap)
 }

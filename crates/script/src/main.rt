@@ -3,24 +3,23 @@
 
 mod cut;
 mod fault;
-mod input;
 mod number;
 mod opening;
 mod parse;
-mod reply;
 mod script;
 mod session;
 #[cfg(test)]
 mod tests;
+mod told;
 
-use std::io;
+use std::io::{self, Read};
 
 // One byte more than a script may have, so that a longer one is seen.
-const ROOM: usize = script::LIMIT + 1;
+const ROOM: u64 = script::LIMIT as u64 + 1;
 
 fn main(rt: HostRuntime) -> io::Result<()> {
-    let mut input = [0; ROOM];
-    let len = input::fill(&mut rt.stdin(), &mut input)?;
-    let out = script::script(rt.alloc(), &input[0..len])?;
+    let mut input = Vec::new(rt.alloc());
+    rt.stdin().take(ROOM).read_to_end(&mut input)?;
+    let out = script::script(rt.alloc(), &input)?;
     print!(rt; "{out}")
 }

@@ -9,23 +9,20 @@ use engine::Call;
 pub(crate) fn parse(s: &[u8]) -> Result<Call, Fault>
     ensures { Parsed s.now result }
 {
-    let Some((head, rest)) = s.split_first() else {
-        return Err(Fault::Unknown);
-    };
-    match char::from(*head) {
-        'm' => {
+    match s {
+        [b'm', rest @ ..] => {
             let [] = numbers::<0>(rest)?;
             Ok(Call::Make)
         }
-        'k' => {
+        [b'k', rest @ ..] => {
             let [task] = numbers::<1>(rest)?;
             Ok(Call::Take(task))
         }
-        'g' => {
+        [b'g', rest @ ..] => {
             let [agent, task] = numbers::<2>(rest)?;
             Ok(Call::Signal { agent, task })
         }
-        't' => {
+        [b't', rest @ ..] => {
             let [agent] = numbers::<1>(rest)?;
             Ok(Call::Turn(agent))
         }

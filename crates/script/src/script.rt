@@ -1,13 +1,14 @@
 // A whole script, from its bytes to what is printed.
-ghost use Rattle.std.specs.Prelude.{◌≡◌, IfOk, string_bytes};
+ghost use Rattle.std.specs.Prelude.{◌≡◌, IfOk, MatchResult, string_bytes};
 ghost use Rattle.script.specs.Texts.{refusal_text, row};
-ghost use Rattle.script.specs.Whole.{Tells, Opened, Printed};
+ghost use Rattle.script.specs.Whole.{NoBank, Opened, Opens, Printed, Tells};
 
 use crate::cut::cut;
-use crate::fault::{Fault, Refusal};
+use crate::fault::Fault;
 use crate::opening::{Kind, bank_of};
 use crate::session::session;
-use banks::Flat;
+use crate::told::Told;
+use forest::Flat;
 use std::alloc::{AllocError, Global};
 
 // How many bytes a script may have.
@@ -20,21 +21,28 @@ pub(crate) fn script(heap: Global, input: &[u8]) -> Result<String, AllocError>
     if input.len() > LIMIT {
         return refused(heap, 0, Fault::TooLong);
     }
-    if input.is_empty() {
-        return refused(heap, 1, Fault::Unknown);
+    match begin(input) {
+        Ok((kind, rest)) => opened(heap, kind, rest),
+        Err(fault) => refused(heap, 1, fault),
     }
-    let (first, rest) = cut(input);
-    match bank_of(first) {
-        Some(kind) => opened(heap, kind, rest),
-        None => refused(heap, 1, Fault::Unknown),
-    }
+}
+
+// The bank that the first line names, and the text after that line.
+fn begin(input: &[u8]) -> Result<(Kind, &[u8]), Fault>
+    ensures { MatchResult result (λ x. Opens input.now x.0 x.1.now) (λ e. (e ≡ Fault.Unknown) × NoBank input.now) }
+{
+    let (first, rest) = cut(input).ok_or(Fault::Unknown)?;
+    Ok((bank_of(first)?, rest))
 }
 
 // The one line that is printed where nothing is run.
 fn refused(heap: Global, line: usize, fault: Fault) -> Result<String, AllocError>
     ensures { IfOk result (λ s. string_bytes s ≡ row (refusal_text line fault)) }
 {
-    let refusal = Refusal { line, fault };
+    let refusal = Told {
+        line,
+        outcome: Err(fault),
+    };
     format!(in heap; "{refusal}\n")
 }
 
@@ -42,10 +50,8 @@ fn refused(heap: Global, line: usize, fault: Fault) -> Result<String, AllocError
 fn opened(heap: Global, kind: Kind, rest: &[u8]) -> Result<String, AllocError>
     ensures { IfOk result (λ s. Opened kind rest.now (string_bytes s)) }
 {
-    let mut out = String::from_str(heap, "ok\n")?;
     let told = tell(heap, kind, rest)?;
-    out.push_str(told.as_str())?;
-    Ok(out)
+    format!(in heap; "ok\n{told}")
 }
 
 // The lines over a new bank of the kind.

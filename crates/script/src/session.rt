@@ -3,55 +3,43 @@ ghost use Rattle.std.specs.Prelude.{◌≡◌, length, IfOk, string_bytes};
 ghost use Rattle.script.specs.Told.{calls_in, page_from, Session};
 
 use crate::cut::read_lines;
-use crate::fault::{Fault, Refusal};
-use crate::reply::Reply;
+use crate::fault::Fault;
+use crate::told::Told;
 use banks::Bank;
-use engine::{Answer, Call, run};
+use engine::{Answer, Call, EngineFault, run};
 use std::alloc::{AllocError, Global};
 
 // The calls among the lines.
 fn calls_in(heap: Global, lines: &[Result<Call, Fault>]) -> Result<Vec<Call>, AllocError>
     ensures { IfOk result (λ v. v.items ≡ calls_in lines.now) }
 {
-    let mut calls = Vec::new(heap);
-    for line in lines {
-        if let Ok(call) = *line {
-            calls.push(call)?;
-        }
-    }
-    Ok(calls)
+    lines.iter().filter_map(|line| line.ok()).collect(heap)
 }
 
+// The answers are a list of their own, as `run` gives them: a line that spells no call has none.
+//
 // What is printed of the lines, which begin at the second of the script: the answer to a call, or the fault of a line that spells none.
 fn page(
     heap: Global,
     lines: &[Result<Call, Fault>],
-    answers: &[Answer],
+    answers: &[Result<Answer, EngineFault>],
 ) -> Result<String, AllocError>
     requires { length answers.now ≡ length (calls_in lines.now) }
     ensures { IfOk result (λ s. string_bytes s ≡ page_from 2 lines.now answers.now) }
 {
     let mut out = String::new(heap);
-    let mut line = 2;
-    let mut next = 0;
-    for read in lines {
-        match *read {
-            Ok(_) => {
-                let reply = Reply {
-                    line,
-                    answer: answers[next],
-                };
-                let text = format!(in heap; "{reply}\n")?;
-                out.push_str(text.as_str())?;
-                next += 1;
-            }
-            Err(fault) => {
-                let refusal = Refusal { line, fault };
-                let text = format!(in heap; "{refusal}\n")?;
-                out.push_str(text.as_str())?;
-            }
-        }
-        line += 1;
+    let mut left = answers.iter();
+    for (index, read) in lines.iter().enumerate() {
+        // A match, since no clause of `and_then` says what its closure takes from the answers that are left.
+        let outcome = match *read {
+            Ok(_) => left.next().unwrap().map_err(Fault::Engine),
+            Err(fault) => Err(fault),
+        };
+        let told = Told {
+            line: index + 2,
+            outcome,
+        };
+        writeln!(out, "{told}")?;
     }
     Ok(out)
 }
@@ -65,7 +53,7 @@ pub(crate) fn session<B: Bank + Drop>(
     ensures { IfOk result (λ s. Session B.means B.does bank text.now (string_bytes s)) }
 {
     let lines = read_lines(heap, text)?;
-    let calls = calls_in(heap, lines.as_slice())?;
-    let answers = run(heap, bank, calls.as_slice())?;
-    page(heap, lines.as_slice(), answers.as_slice())
+    let calls = calls_in(heap, &lines)?;
+    let answers = run(heap, bank, &calls)?;
+    page(heap, &lines, &answers)
 }

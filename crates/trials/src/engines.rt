@@ -1,5 +1,6 @@
-use banks::{Bank, BankFault, Flat};
+use banks::BankFault;
 use engine::{Answer, Call, Engine, EngineFault, Moved, run};
+use forest::Flat;
 use std::test::Fail;
 
 #[test]
@@ -60,17 +61,14 @@ fn a_run(rt: HostRuntime) -> Result<(), Fail> {
     ];
     let answers = run(rt.alloc(), Flat::new(), &calls)?;
     let expected = [
-        Answer::Made { finish: 0, root: 1 },
-        Answer::Taken,
-        Answer::Signalling,
-        Answer::Refused(EngineFault::NoErrand),
-        Answer::Going,
-        Answer::Going,
-        Answer::Ready(0),
+        Ok(Answer::Made { finish: 0, root: 1 }),
+        Ok(Answer::Taken),
+        Ok(Answer::Signalling),
+        Err(EngineFault::NoErrand),
+        Ok(Answer::Moved(Moved::Going)),
+        Ok(Answer::Moved(Moved::Going)),
+        Ok(Answer::Moved(Moved::Ready(0))),
     ];
-    assert_eq!(rt; answers.len(), 7);
-    for (answer, wanted) in answers.iter().zip(expected.iter()) {
-        assert_eq!(rt; *answer, *wanted);
-    }
+    assert_eq!(rt; answers.as_slice(), expected.as_slice());
     Ok(())
 }

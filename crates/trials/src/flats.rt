@@ -1,9 +1,14 @@
-use banks::{Bank, BankFault, Coin, Flat, Reading, Side, Turned};
+use banks::{Bank, BankFault, Coin, Reading, Side, Turned};
+use forest::Flat;
 use std::process::Abort;
 use std::test::Fail;
 
-// The one place of a flat tally, three times.
-const PLACES: (u16, u16, u16) = (0, 0, 0);
+// The one place of a flat tally is that of every receipt and of every later arrival.
+const ARRIVED: Turned = Turned::Arrived {
+    place: 0,
+    left: 0,
+    right: 0,
+};
 
 fn arrive(bank: &mut Flat, agent: u16) -> Result<(), BankFault> {
     bank.arrive(agent, 0, 0, Side::Left, Coin::Heads)
@@ -28,7 +33,7 @@ fn opens_and_drains(rt: HostRuntime) -> Result<(), Fail> {
     assert_eq!(rt; bank.depart(3, 0, 0), Err(BankFault::NoReceipt));
     arrive(&mut bank, 4)?;
     turns(&rt, &mut bank, 4, Turned::Going);
-    turns(&rt, &mut bank, 4, Turned::Arrived(PLACES));
+    turns(&rt, &mut bank, 4, ARRIVED);
     assert_eq!(rt; bank.reading(0), Ok(Reading::Held));
     Ok(())
 }
@@ -42,12 +47,12 @@ fn lost_raise_and_lower(rt: HostRuntime) -> Result<(), Fail> {
     arrive(&mut bank, 15)?;
     turns(&rt, &mut bank, 0, Turned::Going);
     turns(&rt, &mut bank, 15, Turned::Going);
-    turns(&rt, &mut bank, 15, Turned::Arrived(PLACES));
+    turns(&rt, &mut bank, 15, ARRIVED);
     turns(&rt, &mut bank, 0, Turned::Going);
     turns(&rt, &mut bank, 0, Turned::Going);
     bank.depart(15, 0, 0)?;
     turns(&rt, &mut bank, 15, Turned::Going);
-    turns(&rt, &mut bank, 0, Turned::Arrived(PLACES));
+    turns(&rt, &mut bank, 0, ARRIVED);
     turns(&rt, &mut bank, 15, Turned::Going);
     turns(&rt, &mut bank, 15, Turned::Going);
     turns(&rt, &mut bank, 15, Turned::Departed { drained: false });
@@ -95,16 +100,16 @@ fn full_and_crowded(rt: HostRuntime) -> Result<(), Fail> {
     for _ in 0..2047 {
         arrive(&mut bank, 7)?;
         turns(&rt, &mut bank, 7, Turned::Going);
-        turns(&rt, &mut bank, 7, Turned::Arrived(PLACES));
+        turns(&rt, &mut bank, 7, ARRIVED);
     }
     assert_eq!(rt; arrive(&mut bank, 7), Err(BankFault::Crowded));
     assert_eq!(rt; bank.arrive(7, 1, 0, Side::Left, Coin::Heads), Ok(()));
-    for fault in [
+    for (fault, number) in [
         (BankFault::Full, 11),
         (BankFault::Crowded, 17),
         (BankFault::NoReceipt, 18),
     ] {
-        assert_eq!(rt; fault.0.number(), fault.1);
+        assert_eq!(rt; fault.number(), number);
     }
     Ok(())
 }

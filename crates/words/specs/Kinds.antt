@@ -1,7 +1,9 @@
 -- What each kind of word allows.
 --     least k, most k      the least and the most count of a word of kind k
 --     bits k               its two kind bits
-use Rattle.std.specs.Prelude.{ℕ}
+--     Decodes b r          r is the kind with the bits b, or the refusal of bits that no kind has
+use Rattle.std.specs.Prelude.{◌≡◌, ℕ, ◌<◌, Result, MatchResult}
+use Rattle.words.specs.declared.fault.WordFault.{WordFault}
 use Rattle.words.specs.declared.kind.Kind.{Kind}
 use Rattle.words.specs.declared.kind.Kind.TheVariants.{Empty, Half, Counted}
 
@@ -19,3 +21,6 @@ abbrev pub bits : Kind → ℕ
 bits Empty = 0
 bits Half = 1
 bits Counted = 2
+
+abbrev pub Decodes : ℕ → Result Kind WordFault → Type 0
+Decodes b r = MatchResult r (λ k. bits k ≡ b) (λ e. 2 < b)

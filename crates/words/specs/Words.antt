@@ -5,6 +5,8 @@
 --     code w               the 32 bits of w
 --     unpacked n           the word that the bits n spell, or the refusal
 --     Packed n r           r is the one lawful word whose bits are n, or the refusal where there is none
+--     Packs w n            n is the 32 bits of w
+--     Unpacks n r          r shows the word that the bits n spell, and is Packed
 --     same a b             whether two words are the same
 --     blank                the word of a node that nobody has used
 use Rattle.std.specs.Prelude.{◌≡◌, ℕ, ◌+◌, ◌*◌, ◌/◌, ◌%◌, ◌^◌, ◌<◌, ◌≤◌, Bool, cond, ◌&&◌, Ok, Err, Result, ◌==◌, ◌≢◌, nat_le}
@@ -54,6 +56,12 @@ unpacked n = parted (n / 2 ^ 30) (n / 2 ^ 16 % 2 ^ 14) (n % 2 ^ 16)
 abbrev pub Packed : ℕ → Result Plain WordFault → Type 0
 Packed n (Ok w) = Lawful w × (code w ≡ n) × ((v : Plain) → Lawful v → code v ≡ n → v ≡ w)
 Packed n (Err e) = (w : Plain) → Lawful w → code w ≢ n
+
+abbrev pub Packs : Word → ℕ → Type 0
+Packs w n = n ≡ code (shown w)
+
+abbrev pub Unpacks : ℕ → Result Word WordFault → Type 0
+Unpacks n r = (seen r ≡ unpacked n) × Packed n (seen r)
 
 abbrev pub same : Plain → Plain → Bool
 same a b = bits a.kind == bits b.kind && (a.count == b.count && a.version == b.version)

@@ -1,26 +1,38 @@
 ghost use Rattle.std.specs.Prelude.{◌≡◌};
-ghost use Rattle.words.specs.Kinds.{bits};
+ghost use Rattle.words.specs.Kinds.{bits, Decodes};
 
-// The three kinds of a node word.
+use crate::fault::WordFault;
+
+// The three kinds of a node word, each with the two top bits of a packed word.
 #[derive(Clone, Copy, PartialEq, Eq, Debug)]
 pub enum Kind {
     // Nothing is counted at the node.
-    Empty,
+    Empty = 0,
     // A first arrival is under way: its agent has yet to arrive at the parent.
-    Half,
+    Half = 1,
     // One or more are counted.
-    Counted,
+    Counted = 2,
 }
 
 impl Kind {
-    // The two top bits of a packed word.
     pub fn bits(self) -> u32
         ensures { result ≡ bits self }
     {
-        match self {
-            Kind::Empty => 0,
-            Kind::Half => 1,
-            Kind::Counted => 2,
+        self as u32
+    }
+}
+
+impl TryFrom<u32> for Kind {
+    type Error = WordFault;
+
+    ghost try_from_gives = { Decodes };
+
+    fn try_from(bits: u32) -> Result<Kind, WordFault> {
+        match bits {
+            0 => Ok(Kind::Empty),
+            1 => Ok(Kind::Half),
+            2 => Ok(Kind::Counted),
+            _ => Err(WordFault::Unlawful),
         }
     }
 }

@@ -8,7 +8,8 @@ pub mod parts;
 pub mod steps;
 pub mod worked;
 
-// A node word. No value can exist whose kind and count disagree.
+// A node word. No value can exist whose kind and count disagree. Ghost fields and no `impl Model`, since clauses read its
+// parts, and these facts are true of each value.
 #[derive(Clone, Copy, PartialEq, Eq, Debug)]
 pub struct Word {
     kind: Kind,

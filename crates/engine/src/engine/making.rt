@@ -3,9 +3,8 @@ ghost use Rattle.engine.specs.State.{state_of, fresh};
 ghost use Rattle.engine.specs.Calls.{MakeOf};
 
 use crate::engine::Engine;
-use crate::engine::tables::{ROUNDS, start};
 use crate::fault::EngineFault;
-use crate::task::{Pair, Task};
+use crate::tables::Tables;
 use banks::Bank;
 
 impl<B: Bank> Engine<B> {
@@ -15,10 +14,7 @@ impl<B: Bank> Engine<B> {
     {
         Engine {
             bank,
-            tasks: [Task::blank(); 1024],
-            pairs: [Pair::blank(); 512],
-            hands: [None; 16],
-            rounds: 0,
+            tables: Tables::new(),
         }
     }
 
@@ -26,18 +22,8 @@ impl<B: Bank> Engine<B> {
     pub fn make(&mut self) -> Result<(u16, u16), EngineFault>
         ensures { MakeOf B.means B.does (state_of self.old) result (state_of self.new) }
     {
-        if self.rounds >= ROUNDS {
-            return Err(EngineFault::NoNumbers);
-        }
+        self.tables.may_make()?;
         let (tally, place) = self.bank.open()?;
-        let Engine {
-            tasks,
-            pairs,
-            rounds,
-            ..
-        } = self;
-        let numbers = start(tasks, pairs, *rounds, tally, place);
-        *rounds += 1;
-        Ok(numbers)
+        Ok(self.tables.start(tally, place))
     }
 }

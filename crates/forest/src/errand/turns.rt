@@ -1,9 +1,12 @@
 ghost use Rattle.std.specs.Prelude.{◌≡◌, ℕ, ◌<◌, ◌≤◌, true, Some};
-ghost use Rattle.forest.specs.declared.errand.Phase.TheVariants.{Settle};
-ghost use Rattle.forest.specs.Errands.{begun, no_errand, comer, grower, goer, idles, mounts, goes, remembers, climbs, arrived, resumed, departed, helps, raises, opens, settles, loses, lowers, still, again, turned};
+ghost use Rattle.forest.specs.declared.errand.Phase.TheVariants.{Fork, Look, Settle};
+ghost use Rattle.forest.specs.Errands.{begun, no_errand, comer, grower, goer, idles, mounts, goes, remembers, climbs, arrived, resumed, departed, helps, raises, opens, settles, loses, lowers, still, again, turned, at_node};
+ghost use Rattle.forest.specs.Layouts.{heard};
+ghost use Rattle.forest.specs.Tables.{twins, forked};
 
+use crate::errand::frames::Frames;
 use crate::errand::{After, Errand, Frame, Phase, Role, Said};
-use banks::{Coin, Side};
+use banks::{Coin, Side, Turned};
 use words::{Kind, Word};
 
 impl Errand {
@@ -11,24 +14,17 @@ impl Errand {
     fn begun(phase: Phase, tally: u16, node: u16, later: (u16, u16)) -> Errand
         ensures { result ≡ begun phase tally node later }
     {
-        let word = Word::blank();
-        let frame = Frame {
-            node: 0,
-            role: Role::Owner,
-            word,
-        };
         Errand {
             phase,
             tally,
             node,
-            word,
+            word: Word::blank(),
             later,
-            height: 0,
-            frames: [frame; 16],
+            waiting: Frames::none(),
         }
     }
 
-    // No errand.
+    // No errand. By hand and no `Default`, since its contract names it.
     pub(crate) fn idle() -> Errand
         ensures { result ≡ no_errand }
     {
@@ -59,10 +55,7 @@ impl Errand {
     pub(crate) fn is_idle(&self) -> bool
         ensures { result ≡ idles self.now.phase }
     {
-        match self.phase {
-            Phase::Idle => true,
-            _ => false,
-        }
+        matches!(self.phase, Phase::Idle)
     }
 
     fn goes(self) -> After
@@ -103,11 +96,10 @@ impl Errand {
 
     // Climbs to the parent, and leaves the node waiting.
     fn climbs(self, role: Role, word: Word, up: u16) -> After
-        requires { self.height < 16 }
+        requires { self.waiting.height < 16 }
         ensures { result ≡ climbs role word up self }
     {
-        let mut frames = self.frames;
-        frames[self.height] = Frame {
+        let frame = Frame {
             node: self.node,
             role,
             word,
@@ -115,8 +107,7 @@ impl Errand {
         Errand {
             phase: Phase::Read,
             node: up,
-            height: self.height + 1,
-            frames,
+            waiting: self.waiting.push(frame),
             ..self
         }
         .goes()
@@ -124,36 +115,35 @@ impl Errand {
 
     // The arrival at the node is done: the node below that waits is settled next, if there is one.
     fn arrived(self) -> After
-        requires { self.height ≤ 16 }
+        requires { self.waiting.height ≤ 16 }
         ensures { result ≡ arrived self }
     {
-        if self.height == 0 {
-            return After {
+        match self.waiting.top() {
+            None => After {
                 errand: Errand::idle(),
                 write: None,
                 said: Said::Arrived { node: self.node },
-            };
+            },
+            Some(top) => Errand {
+                phase: Phase::Settle,
+                node: top.node,
+                word: top.word,
+                ..self
+            }
+            .goes(),
         }
-        let top = self.frames[self.height - 1];
-        Errand {
-            phase: Phase::Settle,
-            node: top.node,
-            word: top.word,
-            ..self
-        }
-        .goes()
     }
 
     // The newest frame is over: its owner has arrived there, its helper reads the word anew.
     fn resumed(self) -> After
-        requires { (0 < self.height) × (self.height ≤ 16) }
+        requires { (0 < self.waiting.height) × (self.waiting.height ≤ 16) }
         ensures { result ≡ resumed self }
     {
-        let top = self.frames[self.height - 1];
+        let (top, waiting) = self.waiting.pop();
         let popped = Errand {
             phase: Phase::Read,
             node: top.node,
-            height: self.height - 1,
+            waiting,
             ..self
         };
         match top.role {
@@ -164,22 +154,22 @@ impl Errand {
 
     // A departure is done: the errand's own, or that of an agent that lost its settling.
     fn departed(self, drained: bool) -> After
-        requires { self.height ≤ 16 }
+        requires { self.waiting.height ≤ 16 }
         ensures { result ≡ departed drained self }
     {
-        if self.height == 0 {
-            return After {
+        match self.waiting.top() {
+            None => After {
                 errand: Errand::idle(),
                 write: None,
                 said: Said::Departed { drained },
-            };
+            },
+            Some(_) => self.resumed(),
         }
-        self.resumed()
     }
 
     // A half word is found: its helper arrives at the parent first. No root is ever half.
     fn helps(self, found: Word, parent: Option<u16>) -> After
-        requires { (up : ℕ) → parent ≡ Some up → self.height < 16 }
+        requires { (up : ℕ) → parent ≡ Some up → self.waiting.height < 16 }
         ensures { result ≡ helps found parent self }
     {
         match parent {
@@ -190,7 +180,7 @@ impl Errand {
 
     // Sets the count one higher.
     fn raises(self, found: Word) -> After
-        requires { self.height ≤ 16 }
+        requires { self.waiting.height ≤ 16 }
         ensures { result ≡ raises found self }
     {
         if !self.still(found) {
@@ -204,8 +194,8 @@ impl Errand {
 
     // Opens an empty word: its owner arrives at the parent next, at a root it has arrived.
     fn opens(self, found: Word, parent: Option<u16>) -> After
-        requires room { (up : ℕ) → parent ≡ Some up → self.height < 16 }
-        requires high { self.height ≤ 16 }
+        requires room { (up : ℕ) → parent ≡ Some up → self.waiting.height < 16 }
+        requires high { self.waiting.height ≤ 16 }
         ensures { result ≡ opens found parent self }
     {
         if !self.still(found) {
@@ -224,7 +214,7 @@ impl Errand {
 
     // Settles the remembered half word.
     fn settles(self, found: Word, parent: Option<u16>) -> After
-        requires { (0 < self.height) × (self.height ≤ 16) }
+        requires { (0 < self.waiting.height) × (self.waiting.height ≤ 16) }
         ensures { result ≡ settles found parent self }
     {
         if !self.still(found) {
@@ -242,18 +232,25 @@ impl Errand {
     {
         match parent {
             None => self.goes(),
-            Some(up) => Errand {
-                phase: Phase::Look,
-                node: up,
-                ..self
-            }
-            .goes(),
+            Some(up) => self.gives_back(up),
         }
+    }
+
+    // Goes to the parent, where its arrival is given back.
+    fn gives_back(self, up: u16) -> After
+        ensures { result ≡ goes (at_node Look up self) }
+    {
+        Errand {
+            phase: Phase::Look,
+            node: up,
+            ..self
+        }
+        .goes()
     }
 
     // Sets the count one lower. From 1, the node's own arrival at its parent is given back next.
     fn lowers(self, found: Word, parent: Option<u16>) -> After
-        requires { self.height ≤ 16 }
+        requires { self.waiting.height ≤ 16 }
         ensures { result ≡ lowers found parent self }
     {
         if !self.still(found) {
@@ -261,12 +258,7 @@ impl Errand {
         }
         let last = found.count() <= 1;
         let after = match parent {
-            Some(up) if last => Errand {
-                phase: Phase::Look,
-                node: up,
-                ..self
-            }
-            .goes(),
+            Some(up) if last => self.gives_back(up),
             _ => self.departed(last),
         };
         After {
@@ -275,12 +267,13 @@ impl Errand {
         }
     }
 
-    // One turn at a node with this parent, by what the errand is at and by the kind of the word found there together.
+    // One turn at a node with this parent, by what the errand is at and by the kind of the word found there together: the
+    // match is the table of turns, row by row.
     // A compare-and-set writes only where the word found is still the one remembered.
     pub(crate) fn turn(self, found: Word, parent: Option<u16>) -> After
-        requires room { (up : ℕ) → parent ≡ Some up → mounts self.phase ≡ true → self.height < 16 }
-        requires high { self.height ≤ 16 }
-        requires waits { self.phase ≡ Settle → 0 < self.height }
+        requires room { (up : ℕ) → parent ≡ Some up → mounts self.phase ≡ true → self.waiting.height < 16 }
+        requires high { self.waiting.height ≤ 16 }
+        requires waits { self.phase ≡ Settle → 0 < self.waiting.height }
         ensures { result ≡ turned self.phase found.kind self found parent }
     {
         match (self.phase, found.kind()) {
@@ -296,6 +289,62 @@ impl Errand {
             (Phase::Look, _) => self.remembers(Phase::Lower, found),
             (Phase::Lower, Kind::Counted) => self.lowers(found, parent),
             (Phase::Lower, _) => self.again(Phase::Look),
+        }
+    }
+
+    // The growth turn is over: the children are read next.
+    pub(crate) fn grown(self, side: Side) -> Errand
+        ensures { result ≡ at_node (Fork side) self.node self }
+    {
+        Errand {
+            phase: Phase::Fork { side },
+            ..self
+        }
+    }
+
+    // The growth is over: the arrival starts at one of the later places, by its side.
+    pub(crate) fn forked(self, left: Option<u16>, side: Side) -> Errand
+        requires { (l : ℕ) → left ≡ Some l → l < 65535 }
+        ensures { result ≡ forked side (twins self.node left) self }
+    {
+        let later = twins(self.node, left);
+        let node = match side {
+            Side::Left => later.0,
+            Side::Right => later.1,
+        };
+        Errand {
+            phase: Phase::Read,
+            node,
+            later,
+            ..self
+        }
+    }
+}
+
+// The children of a node, or the node twice.
+fn twins(node: u16, left: Option<u16>) -> (u16, u16)
+    requires { (l : ℕ) → left ≡ Some l → l < 65535 }
+    ensures { result ≡ twins node left }
+{
+    match left {
+        None => (node, node),
+        Some(left) => (left, left + 1),
+    }
+}
+
+impl Said {
+    // What a turn is heard to say: the place of its node, counted from the base of the tally, and the later places.
+    pub(crate) fn heard(self, base: u16, later: (u16, u16)) -> Turned
+        ensures { result ≡ heard base later self }
+    {
+        match self {
+            Said::Going => Turned::Going,
+            Said::Arrived { node } => Turned::Arrived {
+                place: node.saturating_sub(base),
+                left: later.0,
+                right: later.1,
+            },
+            Said::Departed { drained } => Turned::Departed { drained },
         }
     }
 }

@@ -1,12 +1,11 @@
-ghost use Rattle.std.specs.Prelude.{◌≡◌, ◌<◌, length};
+ghost use Rattle.std.specs.Prelude.{◌≡◌, ◌<◌};
 ghost use Rattle.forest.specs.Plans.{fixed_parent, fixed_depth, fixed_node, Laid};
 
 use crate::node::Node;
+use std::array;
 
 // So many nodes has a tally.
 pub(crate) const WIDTH: u16 = 15;
-
-const NODES: u16 = 3840;
 
 fn parent(tally: u16, place: u16) -> Option<u16>
     requires { (tally < 256) × (place < 15) }
@@ -22,14 +21,11 @@ fn parent(tally: u16, place: u16) -> Option<u16>
 fn depth(place: u16) -> u8
     ensures { result ≡ fixed_depth place }
 {
-    if place == 0 {
-        0
-    } else if place <= 2 {
-        1
-    } else if place <= 6 {
-        2
-    } else {
-        3
+    match place {
+        0 => 0,
+        1..=2 => 1,
+        3..=6 => 2,
+        _ => 3,
     }
 }
 
@@ -46,12 +42,9 @@ fn laid(tally: u16, place: u16) -> Node
     }
 }
 
-// Lays the nodes of all tallies.
-pub(crate) fn lay(nodes: &mut [Node])
-    requires { length nodes.old ≡ 3840 }
-    ensures { Laid nodes.new }
+// The nodes of all tallies.
+pub(crate) fn lay() -> [Node; 3840]
+    ensures { Laid result }
 {
-    for i in 0..NODES {
-        nodes[i as usize] = laid(i / WIDTH, i % WIDTH);
-    }
+    array::from_fn(|i| laid(i as u16 / WIDTH, i as u16 % WIDTH))
 }

@@ -1,9 +1,9 @@
-ghost use Rattle.std.specs.Prelude.{◌≡◌, ℕ, ◌+◌, ◌<◌, ◌≤◌, true, length, replicate, Some};
-ghost use Rattle.forest.specs.Tables.{no_node, at, child, may_link, nodes_by, used_by, twins, forked};
+ghost use Rattle.std.specs.Prelude.{◌≡◌, ◌+◌, ◌<◌, ◌≤◌, true, length, replicate};
+ghost use Rattle.forest.specs.Tables.{no_node, at, child, may_link, nodes_by, used_by};
 
-use crate::errand::{Errand, Phase};
+use crate::growing::table::Table;
 use crate::node::Node;
-use banks::{Coin, Side};
+use banks::Coin;
 
 // No node is deeper.
 const DEPTH: u8 = 16;
@@ -47,50 +47,22 @@ fn child(node: u16, parent: Node) -> Node
 }
 
 // Links the next two unused nodes as children of a node, if it may. Answers how many nodes are in use then.
-pub(crate) fn link(nodes: &mut [Node], node: u16, used: u16, coin: Coin) -> u16
-    requires { node < length nodes.old }
-    ensures nodes { nodes.new ≡ nodes_by (may_link nodes.old node used coin) nodes.old node used }
-    ensures used { result ≡ used_by (may_link nodes.old node used coin) used }
+pub(crate) fn link<N: Table>(table: &mut N, node: u16, used: u16, coin: Coin) -> u16
+    requires { node < length (N.list table.old) }
+    ensures nodes { N.list table.new ≡ nodes_by (may_link (N.list table.old) node used coin) (N.list table.old) node used }
+    ensures used { result ≡ used_by (may_link (N.list table.old) node used coin) used }
 {
-    if !may_link(nodes, node, used, coin) {
+    if !may_link(table.nodes(), node, used, coin) {
         return used;
     }
-    let parent = nodes[node as usize];
+    let parent = table.nodes()[node as usize];
     let child = child(node, parent);
-    nodes[node as usize] = Node {
+    let linked = Node {
         left: Some(used),
         ..parent
     };
-    nodes[used as usize] = child;
-    nodes[used as usize + 1] = child;
+    table.put(node, linked);
+    table.put(used, child);
+    table.put(used + 1, child);
     used + 2
-}
-
-// The children of a node, or the node twice.
-fn twins(node: u16, left: Option<u16>) -> (u16, u16)
-    requires { (l : ℕ) → left ≡ Some l → l < 65535 }
-    ensures { result ≡ twins node left }
-{
-    match left {
-        None => (node, node),
-        Some(left) => (left, left + 1),
-    }
-}
-
-// The growth is over: the arrival starts at one of the later places, by its side.
-pub(crate) fn fork(errand: Errand, left: Option<u16>, side: Side) -> Errand
-    requires { (l : ℕ) → left ≡ Some l → l < 65535 }
-    ensures { result ≡ forked side (twins errand.node left) errand }
-{
-    let later = twins(errand.node, left);
-    let node = match side {
-        Side::Left => later.0,
-        Side::Right => later.1,
-    };
-    Errand {
-        phase: Phase::Read,
-        node,
-        later,
-        ..errand
-    }
 }

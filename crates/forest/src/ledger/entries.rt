@@ -1,15 +1,15 @@
 ghost use Rattle.std.specs.Prelude.{◌≡◌, ◌<◌, ◌≤◌, slice_index};
-ghost use Rattle.forest.specs.Ledgers.{first_ledger, may_open, free, shut, roomy, may_turn, opens, sends, takes, moves};
+ghost use Rattle.forest.specs.Ledgers.{found, first_ledger, may_open, free, shut, roomy, may_turn, opens, sends, takes, moves};
 
 use crate::errand::Errand;
 use crate::ledger::Ledger;
 use banks::BankFault;
 
-const AGENTS: u16 = 16;
-
 // So many receipts out and arriving agents take no other arrival.
 const CROWD: u16 = 2048;
 
+// The bounds on agents and tallies are clauses: a type for a checked number would be unwrapped at each index.
+//
 // What is tested before a call, apart from what it then does: a refusal touches nothing.
 impl Ledger {
     pub(crate) fn may_open(&self, tallies: u16) -> Result<(), BankFault>
@@ -22,15 +22,21 @@ impl Ledger {
         }
     }
 
+    // The errand of an agent, if there is one of that number.
+    fn agent(&self, agent: u16) -> Result<Errand, BankFault>
+        ensures { result ≡ found self.now agent }
+    {
+        self.errands
+            .get(agent as usize)
+            .copied()
+            .ok_or(BankFault::NoAgent)
+    }
+
     // An agent that may begin an errand.
     pub(crate) fn free(&self, agent: u16) -> Result<(), BankFault>
         ensures { result ≡ free self.now agent }
     {
-        if agent >= AGENTS {
-            return Err(BankFault::NoAgent);
-        }
-        let errand = self.errands[agent as usize];
-        if errand.is_idle() {
+        if self.agent(agent)?.is_idle() {
             Ok(())
         } else {
             Err(BankFault::HasErrand)
@@ -63,11 +69,7 @@ impl Ledger {
     pub(crate) fn may_turn(&self, agent: u16) -> Result<(), BankFault>
         ensures { result ≡ may_turn self.now agent }
     {
-        if agent >= AGENTS {
-            return Err(BankFault::NoAgent);
-        }
-        let errand = self.errands[agent as usize];
-        if errand.is_idle() {
+        if self.agent(agent)?.is_idle() {
             Err(BankFault::Idle)
         } else {
             Ok(())
@@ -105,8 +107,7 @@ impl Ledger {
         ensures { self.new ≡ sends self.old agent tally errand }
     {
         self.errands[agent as usize] = errand;
-        let load = self.load[tally as usize];
-        self.load[tally as usize] = load + 1;
+        self.load[tally as usize] += 1;
     }
 
     // A departure begins: its receipt counts no more.
@@ -116,8 +117,7 @@ impl Ledger {
         ensures { self.new ≡ takes self.old agent tally errand }
     {
         self.errands[agent as usize] = errand;
-        let load = self.load[tally as usize];
-        self.load[tally as usize] = load.saturating_sub(1);
+        self.load[tally as usize] = self.load[tally as usize].saturating_sub(1);
     }
 
     // An errand goes on.

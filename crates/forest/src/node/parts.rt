@@ -1,11 +1,13 @@
 ghost use Rattle.std.specs.Prelude.{◌≡◌};
+ghost use Rattle.forest.specs.Layouts.{empty?, read_by};
 ghost use Rattle.forest.specs.Tables.{no_node, root_node};
 
 use crate::node::Node;
-use words::Word;
+use banks::Reading;
+use words::{Kind, Word};
 
 impl Node {
-    // A node that nobody has used.
+    // A node that nobody has used. By hand and no `Default`, since its contract names the blank.
     pub fn blank() -> Node
         ensures { result ≡ no_node }
     {
@@ -42,5 +44,15 @@ impl Node {
         ensures { result ≡ self.now.out }
     {
         self.out
+    }
+
+    // What a tally reads, by the word of its root.
+    pub(crate) fn reading(&self) -> Reading
+        ensures { result ≡ read_by (empty? self.now.word.kind) }
+    {
+        match self.word.kind() {
+            Kind::Empty => Reading::Zero,
+            Kind::Half | Kind::Counted => Reading::Held,
+        }
     }
 }

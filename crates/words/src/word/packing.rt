@@ -1,5 +1,5 @@
 ghost use Rattle.std.specs.Prelude.{◌≡◌, ◌+◌, ◌*◌, ◌^◌, ◌<◌};
-ghost use Rattle.words.specs.Words.{shown, seen, code, parted, unpacked, Packed};
+ghost use Rattle.words.specs.Words.{Packs, Unpacks};
 
 use crate::fault::WordFault;
 use crate::kind::Kind;
@@ -13,33 +13,25 @@ fn joined(kind: u32, count: u16, version: u16) -> u32
     (kind << 30) | ((count as u32 & 0x3fff) << 16) | (version as u32 & 0xffff)
 }
 
-// The word of these fields, if they are those of a lawful one.
-fn parted(kind: u32, count: u16, version: u16) -> Result<Word, WordFault>
-    ensures { seen result ≡ parted kind count version }
-{
-    match kind {
-        0 => Word::new(Kind::Empty, count, version),
-        1 => Word::new(Kind::Half, count, version),
-        2 => Word::new(Kind::Counted, count, version),
-        _ => Err(WordFault::Unlawful),
+// Its 32 bits: kind, count, version, from the top.
+impl From<Word> for u32 {
+    ghost from_gives = { Packs };
+
+    fn from(word: Word) -> u32 {
+        joined(word.kind.bits(), word.count, word.version)
     }
 }
 
-impl Word {
-    // Its 32 bits: kind, count, version, from the top.
-    pub fn pack(&self) -> u32
-        ensures { result ≡ code (shown self.now) }
-    {
-        joined(self.kind.bits(), self.count, self.version)
-    }
+// The one word that has these bits. Every number that no lawful word has is refused.
+impl TryFrom<u32> for Word {
+    type Error = WordFault;
 
-    // The one word that has these bits. Every number that no lawful word has is refused.
-    pub fn unpack(bits: u32) -> Result<Word, WordFault>
-        ensures value { seen result ≡ unpacked bits }
-        ensures packed { Packed bits (seen result) }
-    {
+    ghost try_from_gives = { Unpacks };
+
+    fn try_from(bits: u32) -> Result<Word, WordFault> {
+        let kind = Kind::try_from(bits >> 30)?;
         let count = ((bits >> 16) & 0x3fff) as u16;
         let version = (bits & 0xffff) as u16;
-        parted(bits >> 30, count, version)
+        Word::new(kind, count, version)
     }
 }

@@ -10,11 +10,11 @@ impl Word {
     pub fn new(kind: Kind, count: u16, version: u16) -> Result<Word, WordFault>
         ensures { seen result ≡ formed kind count version }
     {
-        let (least, most) = match kind {
-            Kind::Empty | Kind::Half => (0, 0),
-            Kind::Counted => (1, 16383),
+        let counts = match kind {
+            Kind::Empty | Kind::Half => 0..=0,
+            Kind::Counted => 1..=16383,
         };
-        if count < least || count > most {
+        if !counts.contains(&count) {
             return Err(WordFault::Unlawful);
         }
         Ok(Word {

@@ -5,10 +5,12 @@ ghost use Rattle.words.specs.Steps.{higher, opening, settling, lower, raised, op
 use crate::kind::Kind;
 use crate::word::Word;
 
-// The words that steps make, by what they show.
+// Each step is a whole function of the word: that a count never comes to its limit is a fact about the banks that take
+// the steps.
 impl Word {
-    fn none() -> Word
-        ensures { shown result ≡ shown blank }
+    // The word of a node that nobody has used. By hand and no `Default`, since its contract names the blank.
+    pub fn blank() -> Word
+        ensures { result ≡ blank }
     {
         Word {
             kind: Kind::Empty,
@@ -17,8 +19,10 @@ impl Word {
         }
     }
 
-    fn higher(self) -> Word
-        ensures { shown result ≡ higher (shown self) }
+    // One higher; a count stops at its limit.
+    pub fn raised(self) -> Word
+        ensures value { shown result ≡ higher (shown self) }
+        ensures whole { result ≡ raised self }
     {
         Word {
             kind: Kind::Counted,
@@ -27,8 +31,11 @@ impl Word {
         }
     }
 
-    fn opening(self, root: bool) -> Word
-        ensures { shown result ≡ opening root (shown self) }
+    // The first arrival at an empty word: half, at a root counted with count 1. The version goes one higher, and
+    // from 65,535 round to 0.
+    pub fn opened(self, root: bool) -> Word
+        ensures value { shown result ≡ opening root (shown self) }
+        ensures whole { result ≡ opened root self }
     {
         let version = self.version.wrapping_add(1);
         let (kind, count) = if root {
@@ -43,19 +50,22 @@ impl Word {
         }
     }
 
-    fn settling(self) -> Word
-        ensures { shown result ≡ settling (shown self) }
+    // The end of a first arrival: count 1.
+    pub fn settled(self) -> Word
+        ensures value { shown result ≡ settling (shown self) }
+        ensures whole { result ≡ settled self }
     {
-        let count = 1;
         Word {
             kind: Kind::Counted,
-            count,
+            count: 1,
             version: self.version,
         }
     }
 
-    fn lower(self) -> Word
-        ensures { shown result ≡ lower (shown self) }
+    // One lower, or empty where nothing would be left.
+    pub fn lowered(self) -> Word
+        ensures value { shown result ≡ lower (shown self) }
+        ensures whole { result ≡ lowered self }
     {
         let (kind, count) = if self.count <= 1 {
             (Kind::Empty, 0)
@@ -67,49 +77,5 @@ impl Word {
             count,
             version: self.version,
         }
-    }
-}
-
-// The same as whole words, for tables that hold words. Each step is a whole function of the word: that a count never
-// comes to its limit is a fact about the banks that take the steps.
-impl Word {
-    // The word of a node that nobody has used.
-    pub fn blank() -> Word
-        ensures { result ≡ blank }
-    {
-        Word::none()
-    }
-
-    // One higher; a count stops at its limit.
-    pub fn raised(self) -> Word
-        ensures value { shown result ≡ higher (shown self) }
-        ensures whole { result ≡ raised self }
-    {
-        self.higher()
-    }
-
-    // The first arrival at an empty word: half, at a root counted with count 1. The version goes one higher, and
-    // from 65,535 round to 0.
-    pub fn opened(self, root: bool) -> Word
-        ensures value { shown result ≡ opening root (shown self) }
-        ensures whole { result ≡ opened root self }
-    {
-        self.opening(root)
-    }
-
-    // The end of a first arrival: count 1.
-    pub fn settled(self) -> Word
-        ensures value { shown result ≡ settling (shown self) }
-        ensures whole { result ≡ settled self }
-    {
-        self.settling()
-    }
-
-    // One lower, or empty where nothing would be left.
-    pub fn lowered(self) -> Word
-        ensures value { shown result ≡ lower (shown self) }
-        ensures whole { result ≡ lowered self }
-    {
-        self.lower()
     }
 }

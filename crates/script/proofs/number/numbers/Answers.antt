@@ -1,46 +1,41 @@
-use Rattle.std.proofs.Common.{length, take, sym, refl, ap, ◌∙◌, subst, arith, length-set, length-take-le, true-eqb, false-eqb}
-use lib.ListN.{length-replicate}
-use Rattle.std.proofs.lemmas.List.{take_more_set, take_all}
-use Rattle.script.specs.Spelling.{Numbers}
-use Rattle.script.proofs.Lists.{placed_all}
-use Rattle.script.proofs.Counts.{Sofar, sofar_more, sofar_all, sofar_stuck, sofar_left}
+use Rattle.std.proofs.Common.{◌≡◌, ◌+◌, [], ◌∷◌, drop, get_or, refl, ◌∙◌, subst, arith, length-drop, append-nil, append_assoc, true-eqb}
+use Rattle.std.proofs.lemmas.List.{drop_more, nil_from_length, take_all, take_more_set, length-set}
+use Rattle.std.proofs.lemmas.List.FromFn.{fill_by_all}
+use Rattle.std.proofs.lemmas.Option.{MatchOption-at_none, MatchOption-at_some}
+use Rattle.std.proofs.lemmas.Result.{err_from_is_err_and}
+use Rattle.script.specs.Spelling.{Numbers, Next}
+use Rattle.script.proofs.Counts.{numbers_cons, numbers_tail, none_next}
 use Rattle.script.proofs.number.numbers.Goals as goal
 
-pub returns-in_default : goal.returns-in_default
-returns-in_default g c =
-    let inv = c.loop-i.invariant in (
-      refl,
-      λ ns long h. sofar_stuck c.args.s.now (take c.loop-i.i c.loop-i.found) c.loop-i.rest.now ns inv.0 c.in_default.ensures
-          (omega (arith, length-take-le c.loop-i.i c.loop-i.found (omega (arith, inv.1)), inv.1)) h,
+pub returns-in_err-n : goal.returns-in_err-n
+returns-in_err-n g c =
+    let p = err_from_is_err_and c.from_residual.result c.from_residual.ensures.1 in
+    let inv = c.loop-slot.invariant in
+    let none = c.in_err-n.ensures in
+    let i = c.loop-slot.slot-index in
+    rw (p.1, p.2) (
+      grind arith,
+      λ ns long h. none_next c.loop-slot.rest.now (drop i ns) (MatchOption-at_none _ _ none.ok_part c.number.ensures) (omega (arith, length-drop i ns, inv.room, long)) (inv.left ns long h),
     )
 
-pub loop-i-preserved : goal.loop-i-preserved
-loop-i-preserved g c =
-    let inv = c.loop-i.invariant in
-    let found = c.loop-i.found in
-    let i = c.loop-i.i in
-    let n = c.in-Some.n in (
-      subst (λ l. Sofar c.args.s.now l c.in-Some.after.now) (sym (take_more_set found i n (omega (arith, inv.1))))
-          (sofar_more c.args.s.now (take i found) c.loop-i.rest.now n c.in-Some.after.now inv.0 c.in-Some.ensures),
-      length-set found i n ∙ inv.1,
-    )
+pub loop-slot-preserved : goal.loop-slot-preserved
+loop-slot-preserved g c =
+    let inv = c.loop-slot.invariant in
+    let items = c.loop-slot.slot-items in
+    let rest = c.loop-slot.rest.now in
+    let i = c.loop-slot.slot-index in
+    let n = c.in_ok-n.n in
+    let after = c.in_ok-n.after.now in
+    let next : Next rest n after = MatchOption-at_some _ _ _ c.in_ok-n.ensures.ok_part c.number.ensures in record {
+      room = length-set items i n ∙ inv.room;
+      found = λ ms h. rw (take_more_set items i n (omega (arith, inv.room)), append_assoc) (inv.found (n ∷ ms) (numbers_cons rest n after ms next h));
+      left = λ ns long h. numbers_tail rest n after (get_or ns i 0) (drop (i + 1) ns) next (rw (drop_more ns i 0 (omega (arith, inv.room, long))) at (inv.left ns long h));
+    }
 
 pub returns-then-is_empty : goal.returns-then-is_empty
 returns-then-is_empty g c =
-    let inv = c.loop-i.invariant in
-    let found = c.loop-i.found in
-    subst (Numbers c.args.s.now) (take_all c.loop-i.i found (omega (arith, inv.1)) ∙ sym (placed_all found 0 g.row.N (omega (arith, inv.1))))
-    (sofar_all c.args.s.now (take c.loop-i.i found) c.loop-i.rest.now inv.0 (true-eqb _ 0 c.if-is_empty.ensures))
-
-pub returns-else-is_empty : goal.returns-else-is_empty
-returns-else-is_empty g c =
-    let inv = c.loop-i.invariant in
-    let found = c.loop-i.found in (
-      refl,
-      λ ns long h. sofar_left c.args.s.now (take c.loop-i.i found) c.loop-i.rest.now ns inv.0
-          (omega (arith, false-eqb _ 0 c.if-is_empty.ensures))
-          (ap length (take_all c.loop-i.i found (omega (arith, inv.1))) ∙ inv.1 ∙ sym long) h,
-    )
-
-pub loop-i-init : goal.loop-i-init
-loop-i-init g c = (refl, length-replicate g.row.N 0)
+    let inv = c.loop-slot.invariant in
+    let items = c.loop-slot.slot-items in
+    let none : c.loop-slot.rest.now ≡ [] = nil_from_length c.loop-slot.rest.now (true-eqb _ 0 c.if-is_empty.ensures) in
+    let all : Numbers c.args.s.now items = rw (append-nil, take_all c.loop-slot.slot-index items (omega (arith, inv.room))) at (inv.found [] none) in
+    subst (Numbers c.args.s.now) (fill_by_all (λ k. get_or items k 0) items g.row.N 0 inv.room (λ k h. refl)) all

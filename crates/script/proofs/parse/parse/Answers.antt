@@ -3,14 +3,14 @@ use Rattle.engine.specs.declared.call.Call.TheVariants.{Take, Signal, Turn}
 use Rattle.script.proofs.Calls.{malformed}
 use Rattle.script.proofs.parse.parse.Goals as goal
 
-pub returns-in_err-task-in-k : goal.returns-in_err-task-in-k
-returns-in_err-task-in-k c =
-    malformed c.args.s.now c.in-Some.rest.now (Take 0) _ c.from_residual-in_err-task-in-k.result (search rules) c.from_residual-in_err-task-in-k.ensures.1 c.in_err-task-in-k.ensures
+pub returns-in_err-task-in-107 : goal.returns-in_err-task-in-107
+returns-in_err-task-in-107 c =
+    malformed c.args.s.now (Take 0) _ c.from_residual-in_err-task-in-107.result (search rules) (search rules) c.from_residual-in_err-task-in-107.ensures.1 c.in_err-task-in-107.ensures
 
-pub returns-in_err-agent-in-g : goal.returns-in_err-agent-in-g
-returns-in_err-agent-in-g c =
-    malformed c.args.s.now c.in-Some.rest.now (Signal 0 0) _ c.from_residual-in_err-agent-in-g.result (search rules) c.from_residual-in_err-agent-in-g.ensures.1 c.in_err-agent-in-g.ensures
+pub returns-in_err-agent-in-103 : goal.returns-in_err-agent-in-103
+returns-in_err-agent-in-103 c =
+    malformed c.args.s.now (Signal 0 0) _ c.from_residual-in_err-agent-in-103.result (search rules) (search rules) c.from_residual-in_err-agent-in-103.ensures.1 c.in_err-agent-in-103.ensures
 
-pub returns-in_err-agent-in-t : goal.returns-in_err-agent-in-t
-returns-in_err-agent-in-t c =
-    malformed c.args.s.now c.in-Some.rest.now (Turn 0) _ c.from_residual-in_err-agent-in-t.result (search rules) c.from_residual-in_err-agent-in-t.ensures.1 c.in_err-agent-in-t.ensures
+pub returns-in_err-agent-in-116 : goal.returns-in_err-agent-in-116
+returns-in_err-agent-in-116 c =
+    malformed c.args.s.now (Turn 0) _ c.from_residual-in_err-agent-in-116.result (search rules) (search rules) c.from_residual-in_err-agent-in-116.ensures.1 c.in_err-agent-in-116.ensures

@@ -1,14 +1,13 @@
 use Rattle.std.proofs.Common.{ℕ, List, string_bytes}
 use Rattle.std.proofs.lemmas.Result.{IfOk-weaker}
-use Rattle.banks.specs.Flat.{Fresh, flat_means, flat_does}
-use Rattle.banks.specs.declared.flat.Flat as banks
+use Rattle.forest.specs.Flat.{FlatNew, flat_means, flat_does}
 use Rattle.script.specs.declared.opening.Kind.{Kind}
 use Rattle.script.specs.declared.opening.Kind.TheVariants.{Flat}
 use Rattle.script.specs.Told.{Session}
 use Rattle.script.specs.Whole.{Tells}
 use Rattle.script.proofs.script.tell.Goals as goal
 
-tells : (k : Kind) (b : banks.Flat) (bs out : List ℕ) → Fresh b → Session flat_means flat_does b bs out → Tells k bs out
+tells : (k : Kind) (b : _) (bs out : List ℕ) → FlatNew b → Session flat_means flat_does b bs out → Tells k bs out
 tells Flat b bs out new told = (b, new, told)
 
 pub returns : goal.returns

@@ -1,11 +1,18 @@
-use Rattle.std.proofs.Common.{vec_items, string_bytes}
-use Rattle.script.proofs.Sessions.{told}
+use Rattle.std.proofs.Common.{◌≡◌, subst, vec_items}
+use Rattle.std.proofs.lemmas.Result.{IfOk-weaker}
+use Rattle.engine.specs.Runs.{Runs}
+use Rattle.script.specs.Told.{calls_in}
 use Rattle.script.proofs.session.session.Goals as goal
 
 pub returns : goal.returns
 returns g c =
-    told g.B.Bank.means g.B.Bank.does c.args.bank string_bytes c.args.text.now c.page.result
-    (vec_items c.in_ok-lines.lines) c.as_slice.result.now c.as_slice-3.result.now
-    (vec_items c.in_ok-calls.calls) c.as_slice-2.result.now (vec_items c.in_ok-answers.answers) c.as_slice-4.result.now
-    c.in_ok-lines.ensures.reads c.as_slice.ensures.value c.as_slice-3.ensures.value c.in_ok-calls.ensures
-    c.as_slice-2.ensures.value c.as_slice-4.ensures.value c.in_ok-answers.ensures.runs c.page.ensures
+    let lines = vec_items c.in_ok-lines.lines in
+    let answers = vec_items c.in_ok-answers.answers in
+    let asked : c.deref-2.result.now ≡ calls_in lines = rw (c.deref-2.ensures.value, c.in_ok-calls.ensures, c.deref.ensures.value) in
+    IfOk-weaker c.page.result _ _ (λ s prints. record {
+      lines = lines;
+      answers = answers;
+      reads = c.in_ok-lines.ensures.reads;
+      runs = subst (λ cs. Runs g.B.Bank.means g.B.Bank.does c.args.bank cs answers) asked c.in_ok-answers.ensures.runs;
+      prints = rw (c.deref-3.ensures.value, c.deref-4.ensures.value) at prints;
+    }) c.page.ensures
