@@ -18,8 +18,6 @@ pub trait Bank {
     // No lone number is above it; it is at most 2,000.
     const LONE_LIMIT: u16;
 
-    ghost LONE_LIMIT: { ℕ };
-
     // What the bank means.
     ghost means: { Self → Meaning };
 
@@ -28,10 +26,7 @@ pub trait Bank {
 
     // The limit on lone numbers.
     fn limit(&self) -> u16
-        ensures { result ≡ (means self.now).limit }
-    {
-        Self::LONE_LIMIT
-    }
+        ensures { result ≡ (means self.now).limit };
 
     // Opens the next tally, with one receipt out at its first place. Answers the tally and the place.
     fn open(&mut self) -> Result<(u16, u16), BankFault>
@@ -66,7 +61,15 @@ pub trait Bank {
         ensures exact { does self.now (asking tally) (reads result) self.now }
         ensures shows { ReadOf (means self.now) tally result }
         ensures lawful { Lawful (means self.now) };
+}
+
+// A bank whose limit on lone numbers is `LIMIT` in every state. It stands apart from `Bank`, which lets the limit depend
+// on the state.
+pub trait Limited: Bank {
+    const LIMIT: u16;
+
+    ghost LIMIT: { ℕ };
 
     // The limit is the same in every state.
-    ghost limited: { (b : Self) → (means b).limit ≡ LONE_LIMIT };
+    ghost limited: { (b : Self) → (Self.means b).limit ≡ LIMIT };
 }

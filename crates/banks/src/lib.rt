@@ -6,5 +6,5 @@ pub mod bank;
 pub mod fault;
 
 pub use answer::{Coin, Reading, Side, Turned};
-pub use bank::Bank;
+pub use bank::{Bank, Limited};
 pub use fault::BankFault;

@@ -1,5 +1,5 @@
 -- The tables of a new engine are sound, and each call keeps them so.
-use Rattle.std.proofs.Common.{◌≡◌, ℕ, ◌+◌, ◌*◌, ◌<◌, true, false, List, length, get_or, set, replicate, is_some, Some, None, Option, sym, refl, ap, ◌∙◌, arith}
+use Rattle.std.proofs.Common.{◌≡◌, ℕ, ◌+◌, ◌*◌, ◌<◌, true, false, List, length, get_or, set, replicate, is_some, Some, None, Option, sym, refl, ap, ◌∙◌, subst, arith}
 use Rattle.std.proofs.lemmas.List.{length-set, length-replicate}
 use Rattle.std.proofs.lemmas.Bool.{both_ways, eqb-true, eq-eqb}
 use Rattle.engine.specs.declared.task.Task.{Task}
@@ -7,6 +7,8 @@ use Rattle.engine.specs.declared.task.Pair.{Pair}
 use Rattle.engine.specs.declared.task.Phase.TheVariants.{Ready, InHand, Busy, Done}
 use Rattle.engine.specs.declared.task.Work.TheVariants.{Begun, Leaving}
 use Rattle.engine.specs.Tasks.{blank, task_in, no_pair, born?, held?, busy_by?, come, final_task, root_task}
+use Rattle.engine.specs.declared.rows.Rows.{Rows}
+use Rattle.engine.specs.State.{State, rows_of}
 use Rattle.engine.specs.Sound.{Sized, Sound}
 use Rattle.engine.proofs.Lists.{at_set, at_replicate, within}
 use Rattle.engine.proofs.Phases.{busy_held, held_born}
@@ -32,6 +34,11 @@ fresh_sound =
     unborn_sound _ _ _
     (length-replicate 1024 blank, length-replicate 512 no_pair, length-replicate {A = Option ℕ} 16 None, omega arith)
     (at_replicate 1024 blank) (at_replicate 16 None)
+
+-- rows are sound where the state that they show is
+pub shown_sound : (r : Rows) (s : State Unit) → rows_of r ≡ s → Sound s.tasks s.pairs s.hands s.rounds
+    → Sound r.tasks r.pairs r.hands r.rounds
+shown_sound r s e h = subst (λ (z : State Unit). Sound z.tasks z.pairs z.hands z.rounds) (sym e) h
 
 module _ {ks : List Task} {qs : List Pair} {hs : List (Option ℕ)} {r : ℕ} (s : Sound ks qs hs r) where
   pub take_sound : (n : ℕ) → (task_in ks n).phase ≡ Ready → is_some (task_in ks n).finish ≡ true → Sound (come ks n InHand) qs hs r

@@ -1,6 +1,6 @@
 -- The state of an engine, and the states after its calls.
 --     State B                        an engine over a bank of type B
---     tables_of t                    the state of the tables t, over no bank
+--     rows_of r, tables_of t         the state of the rows r, and of the tables t, over no bank
 --     state_of e, fresh b            the state of the engine e; of a new engine over the bank b
 --     task_at s n, pair_at s q       the task n, the pair q
 --     hand_at s a                    the task that the agent a is busy with
@@ -11,9 +11,11 @@
 --     after_claim s a n q b          the task n has claimed from the pair q, and is leaving
 --     after_leave s a n b            the task n is done, and its agent a free
 --     after_last s a n f b           the same, and its finish f is ready
+--     after_ready s f                the finish f is ready
 --     with_bank s b                  the bank is b, and all else as in s
 use Rattle.std.specs.Prelude.{ℕ, ◌+◌, ◌*◌, List, replicate, Some, None, Option, slice_index_or, slice_set}
 use Rattle.engine.specs.declared.engine.Engine.{Engine}
+use Rattle.engine.specs.declared.rows.Rows.{Rows}
 use Rattle.engine.specs.declared.tables.Tables.{Tables}
 use Rattle.engine.specs.declared.task.Task.{Task}
 use Rattle.engine.specs.declared.task.Pair.{Pair}
@@ -28,8 +30,11 @@ pub record State (B : Type 0) : Type 0 where
   pub rounds : ℕ  -- round r gave out the tasks 2 r and 2 r + 1, and the pair r
   pub bank : B
 
+abbrev pub rows_of : Rows → State Unit
+rows_of r = record { tasks = r.tasks; pairs = r.pairs; hands = r.hands; rounds = r.rounds; bank = tt }
+
 abbrev pub tables_of : Tables → State Unit
-tables_of t = record { tasks = t.tasks; pairs = t.pairs; hands = t.hands; rounds = t.rounds; bank = tt }
+tables_of t = rows_of t.rows
 
 abbrev pub with_bank : {A B : Type 0} → State A → B → State B
 with_bank s b = record { tasks = s.tasks; pairs = s.pairs; hands = s.hands; rounds = s.rounds; bank = b }
@@ -89,3 +94,6 @@ module _ {B : Type 0} where
     hands = slice_set s.hands a None;
     bank = b;
   }
+
+  abbrev pub after_ready : State B → ℕ → State B
+  after_ready s f = record s { tasks = come s.tasks f Ready }

@@ -4,6 +4,7 @@
 pub mod call;
 pub mod engine;
 pub mod fault;
+mod rows;
 pub mod runs;
 mod tables;
 pub mod task;

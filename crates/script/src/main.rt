@@ -3,6 +3,7 @@
 
 mod cut;
 mod fault;
+mod input;
 mod number;
 mod opening;
 mod parse;
@@ -12,14 +13,14 @@ mod session;
 mod tests;
 mod told;
 
-use std::io::{self, Read};
+use std::io;
 
 // One byte more than a script may have, so that a longer one is seen.
-const ROOM: u64 = script::LIMIT as u64 + 1;
+const ROOM: usize = script::LIMIT + 1;
 
 fn main(rt: HostRuntime) -> io::Result<()> {
-    let mut input = Vec::new(rt.alloc());
-    rt.stdin().take(ROOM).read_to_end(&mut input)?;
-    let out = script::script(rt.alloc(), &input)?;
+    let mut input = [0; ROOM];
+    let len = input::fill(&mut rt.stdin(), &mut input)?;
+    let out = script::script(rt.alloc(), &input[..len])?;
     print!(rt; "{out}")
 }

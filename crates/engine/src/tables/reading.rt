@@ -4,7 +4,8 @@ ghost use Rattle.engine.specs.Tasks.{held?, claimed};
 ghost use Rattle.engine.specs.State.{tables_of, task_at, pair_at};
 ghost use Rattle.engine.specs.Calls.{Stakes};
 
-use crate::tables::{ROUNDS, Tables};
+use crate::rows::ROUNDS;
+use crate::tables::Tables;
 use crate::task::Task;
 
 impl Tables {
@@ -12,7 +13,11 @@ impl Tables {
     pub(crate) fn task(&self, n: u16) -> Task
         ensures { result ≡ task_at (tables_of self.now) n }
     {
-        self.tasks.get(n as usize).copied().unwrap_or(Task::BLANK)
+        self.rows
+            .tasks
+            .get(n as usize)
+            .copied()
+            .unwrap_or(Task::BLANK)
     }
 
     // What a held task departs from: the tally of its finish, and its pair.
@@ -30,6 +35,6 @@ impl Tables {
         requires { pair < ROUNDS }
         ensures { result ≡ claimed (pair_at (tables_of self.now) pair) }
     {
-        self.pairs[pair as usize].receipt()
+        self.rows.pairs[pair as usize].receipt()
     }
 }

@@ -5,7 +5,8 @@ ghost use Rattle.engine.specs.State.{tables_of, hand_at};
 ghost use Rattle.engine.specs.Calls.{ErrandOf};
 
 use crate::fault::EngineFault;
-use crate::tables::{ROUNDS, Tables};
+use crate::rows::ROUNDS;
+use crate::tables::Tables;
 use crate::task::{Phase, Work};
 
 impl Tables {
@@ -14,7 +15,8 @@ impl Tables {
         ensures refusal { refusal_of result ≡ (if nat_lt 15 agent then Some 1 else None) }
         ensures hand { IfOk result (λ h. h ≡ hand_at (tables_of self.now) agent) }
     {
-        self.hands
+        self.rows
+            .hands
             .get(agent as usize)
             .copied()
             .ok_or(EngineFault::NoAgent)
@@ -23,7 +25,7 @@ impl Tables {
     pub(crate) fn may_make(&self) -> Result<(), EngineFault>
         ensures { refusal_of result ≡ make_refusal (tables_of self.now) }
     {
-        if self.rounds as usize >= ROUNDS {
+        if self.rows.rounds as usize >= ROUNDS {
             return Err(EngineFault::NoNumbers);
         }
         Ok(())

@@ -1,4 +1,4 @@
-// What the calls write into the tables.
+// What the calls write into the tables, which stay sound.
 ghost use Rattle.std.specs.Prelude.{◌≡◌, ◌+◌, ◌<◌, IsSome};
 ghost use Rattle.banks.specs.declared.answer.Turned.TheVariants.{Departed};
 ghost use Rattle.engine.specs.declared.task.Phase.TheVariants.{InHand, Ready};
@@ -7,50 +7,24 @@ ghost use Rattle.engine.specs.State.{tables_of, fresh, task_at, next, after_make
 ghost use Rattle.engine.specs.Calls.{At, Leaves};
 
 use crate::call::Moved;
-use crate::tables::{AGENTS, ROUNDS, TASKS, Tables};
-use crate::task::{Pair, Phase, Task, Work};
+use crate::rows::{AGENTS, ROUNDS, Rows};
+use crate::tables::Tables;
 
 impl Tables {
     // No number is given out, and each agent is free.
     pub(crate) fn new() -> Tables
         ensures { tables_of result ≡ fresh tt }
     {
-        Tables {
-            tasks: [Task::BLANK; TASKS],
-            pairs: [Pair::BLANK; ROUNDS],
-            hands: [None; AGENTS],
-            rounds: 0,
-        }
+        Tables { rows: Rows::new() }
     }
 
     // The final task waits on the tally, and the root task under it is ready, with the first receipt twice.
     pub(crate) fn start(&mut self, tally: u16, place: u16) -> (u16, u16)
-        requires { self.old.rounds < ROUNDS }
+        requires { self.old.rows.rounds < ROUNDS }
         ensures numbers { result ≡ (next (tables_of self.old), next (tables_of self.old) + 1) }
         ensures tables { tables_of self.new ≡ after_make (tables_of self.old) tally place tt }
     {
-        let round = self.rounds;
-        let finish = 2 * round;
-        let root = finish + 1;
-        self.tasks[finish as usize] = Task {
-            phase: Phase::Waiting,
-            tally: Some(tally),
-            ..Task::BLANK
-        };
-        self.tasks[root as usize] = Task {
-            phase: Phase::Ready,
-            finish: Some(finish),
-            place,
-            pair: Some(round),
-            ..Task::BLANK
-        };
-        self.pairs[round as usize] = Pair {
-            first: place,
-            second: place,
-            mark: false,
-        };
-        self.rounds += 1;
-        (finish, root)
+        self.rows.start(tally, place)
     }
 
     // The task is in hand.
@@ -59,7 +33,7 @@ impl Tables {
         requires finish { IsSome (task_at (tables_of self.old) n).finish }
         ensures { tables_of self.new ≡ after_take (tables_of self.old) n }
     {
-        self.tasks[n as usize].phase = Phase::InHand;
+        self.rows.hold(n);
     }
 
     // The agent is busy with the task, and has yet to claim.
@@ -68,11 +42,7 @@ impl Tables {
         requires task { (task_at (tables_of self.old) n).phase ≡ InHand }
         ensures { tables_of self.new ≡ after_signal (tables_of self.old) agent n }
     {
-        self.tasks[n as usize].phase = Phase::Busy {
-            agent,
-            work: Work::Begun,
-        };
-        self.hands[agent as usize] = Some(n);
+        self.rows.begin(agent, n);
     }
 
     // The task has claimed from its pair, and is leaving.
@@ -81,11 +51,7 @@ impl Tables {
         requires pair { pair < ROUNDS }
         ensures { tables_of self.new ≡ after_claim (tables_of self.old) agent n pair tt }
     {
-        self.pairs[pair as usize].mark = true;
-        self.tasks[n as usize].phase = Phase::Busy {
-            agent,
-            work: Work::Leaving,
-        };
+        self.rows.claim(agent, n, pair);
     }
 
     // The task is done and its agent free; a drained tally makes the finish ready.
@@ -94,12 +60,11 @@ impl Tables {
         ensures { Leaves (tables_of self.old) agent n (Departed drained) result (tables_of self.new) }
     {
         let finish = self.task(n).finish.unwrap();
-        self.tasks[n as usize].phase = Phase::Done;
-        self.hands[agent as usize] = None;
+        self.rows.leave(agent, n);
         if !drained {
             return Moved::Signalled;
         }
-        self.tasks[finish as usize].phase = Phase::Ready;
+        self.rows.drain(finish);
         Moved::Ready(finish)
     }
 }

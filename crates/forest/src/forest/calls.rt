@@ -6,7 +6,7 @@ ghost use Rattle.forest.specs.Tables.{node_at};
 use crate::forest::Forest;
 use crate::node::Node;
 use crate::trees::Trees;
-use banks::{Bank, BankFault, Coin, Reading, Side, Turned};
+use banks::{Bank, BankFault, Coin, Limited, Reading, Side, Turned};
 
 impl<T: Trees> Forest<T> {
     // One of its nodes, as it stands.
@@ -21,11 +21,13 @@ impl<T: Trees> Forest<T> {
 impl<T: Trees> Bank for Forest<T> {
     const LONE_LIMIT: u16 = T::LONE_LIMIT;
 
-    ghost LONE_LIMIT = { T.LONE_LIMIT };
-
     ghost means = { forest_means };
 
     ghost does = { forest_does };
+
+    fn limit(&self) -> u16 {
+        T::LONE_LIMIT
+    }
 
     fn open(&mut self) -> Result<(u16, u16), BankFault> {
         self.tables.may_open()?;
@@ -62,6 +64,13 @@ impl<T: Trees> Bank for Forest<T> {
         self.tables.ledger.shut(tally)?;
         Ok(self.tables.trees.nodes()[T::root(tally) as usize].reading())
     }
+}
+
+// Its limit is that of its trees.
+impl<T: Trees> Limited for Forest<T> {
+    const LIMIT: u16 = T::LONE_LIMIT;
+
+    ghost LIMIT = { T.LONE_LIMIT };
 
     ghost limited = { λ b. sym T.limits };
 }

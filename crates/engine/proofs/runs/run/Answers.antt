@@ -7,8 +7,8 @@ use Rattle.engine.proofs.runs.run.Goals as goal
 pub loop-call-preserved : goal.loop-call-preserved
 loop-call-preserved g c = record {
   ran =
-      run_next g.B.Bank.means g.B.Bank.does (fresh c.args.bank) (state_of c.loop-call.engine) (state_of c.call.new.self) _ _ Make _ _ _
-      c.loop-call-test.true c.push_reserved.ensures.items c.loop-call.invariant.ran c.call.ensures;
+      run_next g.B.Bank.means g.B.Bank.does (fresh c.args.bank) (state_of c.loop-call.engine) (state_of c.perform.new.engine) _ _ Make _ _ _
+      c.loop-call-test.true c.perform.ensures.step.2 c.loop-call.invariant.ran c.perform.ensures.step.1;
   answered = omega arith;
   room = search rules;
 }
