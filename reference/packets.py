@@ -12,46 +12,44 @@ import subprocess
 import sys
 
 TALLIES = 256
-MAKES = 600
-
-
-def script():
-    return b"b 0\n" + b"m\n" * MAKES
+BYTES = 65536
+SCRIPT = b"b 0\n" + b"m\n" * ((BYTES - 4) // 2)
+PIPE_PACKET = 4096
 
 
 def expected():
-    lines = ["ok"]
-    for i in range(MAKES):
-        if i < TALLIES:
-            lines.append(f"ok {2 * i} {2 * i + 1}")
-        else:
-            lines.append(f"no {i + 2} B 11")
-    return "".join(line + "\n" for line in lines)
+    yield "ok"
+    for i in range((BYTES - 4) // 2):
+        yield f"ok {2 * i} {2 * i + 1}" if i < TALLIES else f"no {i + 2} B 11"
 
 
 def pipe_of_packets():
+    """The script in sixteen packets, each as large as a pipe keeps whole."""
     reader, writer = os.pipe2(os.O_DIRECT)
-    os.write(writer, script())
+    for start in range(0, BYTES, PIPE_PACKET):
+        os.write(writer, SCRIPT[start : start + PIPE_PACKET])
     os.close(writer)
     return reader
 
 
 def socket_of_packets():
+    """The script in one packet."""
     reader, writer = socket.socketpair(socket.AF_UNIX, socket.SOCK_SEQPACKET)
-    writer.send(script())
+    writer.send(SCRIPT)
     writer.close()
     return reader.detach()
 
 
 def main():
     program = sys.argv[1]
+    wanted = list(expected())
     for packets in (pipe_of_packets, socket_of_packets):
         reader = packets()
         ran = subprocess.run([program], stdin=reader, stdout=subprocess.PIPE, timeout=20, text=True)
         os.close(reader)
-        if ran.returncode != 0 or ran.stdout != expected():
-            told = len(ran.stdout.splitlines())
-            sys.exit(f"{packets.__name__}: status {ran.returncode}, {told} lines of {MAKES + 1}, or other ones")
+        told = ran.stdout.splitlines()
+        if ran.returncode != 0 or told != wanted:
+            sys.exit(f"{packets.__name__}: status {ran.returncode}, {len(told)} lines of {len(wanted)}, or other ones")
 
 
 if __name__ == "__main__":

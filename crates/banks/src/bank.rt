@@ -18,6 +18,9 @@ pub trait Bank {
     // No lone number is above it; it is at most 2,000.
     const LONE_LIMIT: u16;
 
+    // The same constant, for clauses.
+    ghost LONE_LIMIT: { ℕ };
+
     // What the bank means.
     ghost means: { Self → Meaning };
 
@@ -63,13 +66,8 @@ pub trait Bank {
         ensures lawful { Lawful (means self.now) };
 }
 
-// A bank whose limit on lone numbers is `LIMIT` in every state. It stands apart from `Bank`, which lets the limit depend
-// on the state.
+// A bank whose limit on lone numbers is its constant in every state. It stands apart from `Bank`, which lets the limit
+// depend on the state.
 pub trait Limited: Bank {
-    const LIMIT: u16;
-
-    ghost LIMIT: { ℕ };
-
-    // The limit is the same in every state.
-    ghost limited: { (b : Self) → (Self.means b).limit ≡ LIMIT };
+    ghost limited: { (b : Self) → (Self.means b).limit ≡ Self.LONE_LIMIT };
 }

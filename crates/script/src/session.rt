@@ -53,7 +53,7 @@ pub(crate) fn session<B: Bank + Drop>(
     ensures { IfOk result (λ s. Session B.means B.does bank text.now (string_bytes s)) }
 {
     let lines = read_lines(heap, text)?;
-    let calls = calls_in(heap, &lines)?;
-    let answers = run(heap, bank, &calls)?;
+    // The list of the calls is let go before the page grows.
+    let answers = run(heap, bank, &calls_in(heap, &lines)?)?;
     page(heap, &lines, &answers)
 }

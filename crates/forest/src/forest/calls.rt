@@ -21,12 +21,14 @@ impl<T: Trees> Forest<T> {
 impl<T: Trees> Bank for Forest<T> {
     const LONE_LIMIT: u16 = T::LONE_LIMIT;
 
+    ghost LONE_LIMIT = { T.LONE_LIMIT };
+
     ghost means = { forest_means };
 
     ghost does = { forest_does };
 
     fn limit(&self) -> u16 {
-        T::LONE_LIMIT
+        <Forest<T> as Bank>::LONE_LIMIT
     }
 
     fn open(&mut self) -> Result<(u16, u16), BankFault> {
@@ -68,9 +70,5 @@ impl<T: Trees> Bank for Forest<T> {
 
 // Its limit is that of its trees.
 impl<T: Trees> Limited for Forest<T> {
-    const LIMIT: u16 = T::LONE_LIMIT;
-
-    ghost LIMIT = { T.LONE_LIMIT };
-
     ghost limited = { λ b. sym T.limits };
 }

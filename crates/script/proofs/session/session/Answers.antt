@@ -8,7 +8,7 @@ pub returns : goal.returns
 returns g c =
     let lines = vec_items c.in_ok-lines.lines in
     let answers = vec_items c.in_ok-answers.answers in
-    let asked : c.deref-2.result.now ≡ calls_in lines = rw (c.deref-2.ensures.value, c.in_ok-calls.ensures, c.deref.ensures.value) in
+    let asked : c.deref-2.result.now ≡ calls_in lines = rw (c.deref-2.ensures.value, c.in_ok-calls_in.ensures, c.deref.ensures.value) in
     IfOk-weaker c.page.result _ _ (λ s prints. record {
       lines = lines;
       answers = answers;
