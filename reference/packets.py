@@ -15,6 +15,7 @@ TALLIES = 256
 BYTES = 65536
 SCRIPT = b"b 0\n" + b"m\n" * ((BYTES - 4) // 2)
 PIPE_PACKET = 4096
+SMALL = 100
 
 
 def expected():
@@ -33,9 +34,10 @@ def pipe_of_packets():
 
 
 def socket_of_packets():
-    """The script in one packet."""
+    """The script in two packets, the second far larger."""
     reader, writer = socket.socketpair(socket.AF_UNIX, socket.SOCK_SEQPACKET)
-    writer.send(SCRIPT)
+    writer.send(SCRIPT[:SMALL])
+    writer.send(SCRIPT[SMALL:])
     writer.close()
     return reader.detach()
 

@@ -16,6 +16,10 @@ fn calls_in(heap: Global, lines: &[Result<Call, Fault>]) -> Result<Vec<Call>, Al
     lines.iter().filter_map(|line| line.ok()).collect(heap)
 }
 
+// So many lines are put on a page whole. Then it has room for a line, and doubles where it is full, whatever the pieces
+// are in which a line comes.
+const WHOLE: usize = 8;
+
 // The answers are a list of their own, as `run` gives them: a line that spells no call has none.
 //
 // What is printed of the lines, which begin at the second of the script: the answer to a call, or the fault of a line that spells none.
@@ -39,7 +43,11 @@ fn page(
             line: index + 2,
             outcome,
         };
-        writeln!(out, "{told}")?;
+        if index < WHOLE {
+            out.push_str(&format!(in heap; "{told}\n")?)?;
+        } else {
+            writeln!(out, "{told}")?;
+        }
     }
     Ok(out)
 }
