@@ -10,6 +10,6 @@ mod turning;
 // An engine over a bank. Nothing is allocated after it is made.
 #[derive(Drop)]
 pub struct Engine<B> {
-    bank: B,
-    tables: Tables,
+    pub(crate) bank: B,
+    pub(crate) tables: Tables,
 }

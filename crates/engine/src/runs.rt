@@ -5,6 +5,7 @@ ghost use Rattle.engine.specs.Runs.{Step, Runs};
 use crate::call::{Answer, Call};
 use crate::engine::Engine;
 use crate::fault::EngineFault;
+use crate::tables::Tables;
 use banks::Bank;
 use std::alloc::{AllocError, Global};
 
@@ -32,7 +33,11 @@ pub fn run<B: Bank + Drop>(
     ensures len { IfOk result (λ v. length v.items ≡ length calls.now) }
 {
     let mut answers = Vec::with_capacity(heap, calls.len())?;
-    let mut engine = Engine::new(bank);
+    // Built in its place: the answer of `Engine::new` would be copied, and stand on the stack twice.
+    let mut engine = Engine {
+        bank,
+        tables: Tables::new(),
+    };
     // No clause of `map` says what a closure answers that changes the engine, so this is a loop.
     for call in calls {
         perform(&mut engine, *call, &mut answers);

@@ -1,5 +1,5 @@
 -- A text by its lines. Assumes nothing.
-use Rattle.std.proofs.Common.{◌≡◌, ℕ, ◌<◌, List, [], ◌∷◌, ◌++◌, length, Result, sym, refl, ap, ◌∙◌, subst, ⊎_elim, arith, length-append, append-nil}
+use Rattle.std.proofs.Common.{◌≡◌, ℕ, ◌<◌, List, [], ◌∷◌, ◌++◌, length, map, Result, sym, refl, ap, ◌∙◌, subst, ⊎_elim, arith, length-append, append-nil}
 use Rattle.std.specs.Fn.{Called, Mut}
 use Rattle.std.specs.Iterator.{Drains}
 use Rattle.std.specs.Iterator.Adapters.{map_source, map_callee}
@@ -9,8 +9,10 @@ use Rattle.std.specs.Borrow.{Bor}
 use Rattle.engine.specs.declared.call.Call.{Call}
 use Rattle.script.specs.declared.cut.Lines.{Lines}
 use Rattle.script.specs.declared.fault.Fault.{Fault}
+use Rattle.script.specs.declared.line.Line.{Line}
 use Rattle.script.specs.Spelling.{Parsed}
 use Rattle.script.specs.Lines.{Inner, Cut, Cuts, Reads}
+use Rattle.script.specs.Settled.{spelled, Unanswered}
 use Rattle.script.proofs.Calls.{parsed_once}
 use Rattle.script.proofs.Lists.{front_once}
 
@@ -46,11 +48,18 @@ reads_once bs (r ∷ rs) (q ∷ qs) p k =
     let rest = reads_once p.1 rs qs p.4 (subst (λ b. Reads b qs) (sym same.1) k.4) in
     cc
 
+pub unanswered_once : (bs : List ℕ) (ls ks : List Line) → Unanswered bs ls → Unanswered bs ks → ls ≡ ks
+unanswered_once bs ls ks p k = p.2 ∙ ap (map spelled) (reads_once bs p.0 k.0 p.1 k.1) ∙ sym k.2
+
 -- what a chain of `map` over the lines collects, where the closure reads each line
-module _ {F : Type 0} (g : Mut F (Bor (List ℕ) × Unit {0}) (Result Call Fault))
-    (says : (f : F) (l : Bor (List ℕ)) (r : Result Call Fault) (h : F) → Called g f (l, tt) r h → Parsed l.now r) where
-  pub reads_from : (s : Map Lines F) (rs : List (Result Call Fault)) → Drains (maps Cuts g) s rs → Reads (map_source s).0.now rs
-  reads_from s [] d = subst (λ (t : Map Lines F). (map_source t).0.now ≡ []) (sym d.1.1) d.1.2.0
-  reads_from s (r ∷ rs) d =
+module _ {F : Type 0} (g : Mut F (Bor (List ℕ) × Unit {0}) Line)
+    (says : (f : F) (l : Bor (List ℕ)) (x : Line) (h : F) → Called g f (l, tt) x h → (r : Result Call Fault) × Parsed l.now r × (x ≡ spelled r)) where
+  pub reads_from : (s : Map Lines F) (ls : List Line) → Drains (maps Cuts g) s ls → Unanswered (map_source s).0.now ls
+  reads_from s [] d = ([], subst (λ (t : Map Lines F). (map_source t).0.now ≡ []) (sym d.1.1) d.1.2.0, refl)
+  reads_from s (x ∷ ls) d =
       let first = d.1.1.1 in
-      (first.0.now, (map_source d.1.1.0).0.now, first.1, says (map_callee s) first.0 r (map_callee d.1.1.0) first.2, reads_from d.1.1.0 rs (d.0, (d.1.0, d.1.1.2, d.1.2)))
+      let read = says (map_callee s) first.0 x (map_callee d.1.1.0) first.2 in
+      let rest = reads_from d.1.1.0 ls (d.0, (d.1.0, d.1.1.2, d.1.2)) in
+      let here = read.2 in
+      let there = rest.2 in
+      (read.0 ∷ rest.0, (first.0.now, (map_source d.1.1.0).0.now, first.1, read.1, rest.1), cc)

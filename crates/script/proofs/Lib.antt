@@ -3,3 +3,4 @@ pub mod Numerals
 pub mod Counts
 pub mod Cuts
 pub mod Calls
+pub mod Settled

@@ -1,11 +1,11 @@
 // The lines of a text.
-ghost use Rattle.std.specs.Prelude.{◌≡◌, List, [], length, IfOk, MatchOption, Result};
+ghost use Rattle.std.specs.Prelude.{◌≡◌, List, [], length, IfOk, MatchOption};
 ghost use Rattle.std.specs.Iterator.{at_most};
-ghost use Rattle.script.specs.Lines.{Cut, Reads, Cuts};
+ghost use Rattle.script.specs.Lines.{Cut, Cuts};
+ghost use Rattle.script.specs.Settled.{Unanswered};
 
-use crate::fault::Fault;
+use crate::line::Line;
 use crate::parse::parse;
-use engine::Call;
 use std::alloc::{AllocError, Global};
 
 // The first line of a text and what comes after its newline, unless the text is empty.
@@ -40,9 +40,11 @@ impl<'a> Iterator for Lines<'a> {
 }
 
 // What each line of the text spells, in their order.
-pub(crate) fn read_lines(heap: Global, text: &[u8]) -> Result<Vec<Result<Call, Fault>>, AllocError>
-    ensures reads { IfOk result (λ v. Reads text.now v.items) }
-    ensures once { IfOk result (λ v. (rs : List (Result Call Fault)) → Reads text.now rs → rs ≡ v.items) }
+pub(crate) fn read_lines(heap: Global, text: &[u8]) -> Result<Vec<Line>, AllocError>
+    ensures reads { IfOk result (λ v. Unanswered text.now v.items) }
+    ensures once { IfOk result (λ v. (ls : List Line) → Unanswered text.now ls → ls ≡ v.items) }
 {
-    Lines(text).map(parse).collect(heap)
+    Lines(text)
+        .map(|line| Line::from(parse(line)))
+        .collect(heap)
 }

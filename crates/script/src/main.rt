@@ -4,6 +4,7 @@
 mod cut;
 mod fault;
 mod input;
+mod line;
 mod number;
 mod opening;
 mod parse;

@@ -14,6 +14,9 @@ use std::alloc::{AllocError, Global};
 // How many bytes a script may have.
 pub(crate) const LIMIT: usize = 65536;
 
+// What is printed of a first line that is accepted.
+const ACCEPTED: &str = "ok\n";
+
 // What is printed for an input.
 pub(crate) fn script(heap: Global, input: &[u8]) -> Result<String, AllocError>
     ensures { IfOk result (λ s. Printed input.now (string_bytes s)) }
@@ -50,8 +53,11 @@ fn refused(heap: Global, line: usize, fault: Fault) -> Result<String, AllocError
 fn opened(heap: Global, kind: Kind, rest: &[u8]) -> Result<String, AllocError>
     ensures { IfOk result (λ s. Opened kind rest.now (string_bytes s)) }
 {
-    let told = tell(heap, kind, rest)?;
-    format!(in heap; "ok\n{told}")
+    let mut page = tell(heap, kind, rest)?;
+    // Room for just these bytes, or the page would double.
+    page.reserve_exact(ACCEPTED.len())?;
+    page.insert_str(0, ACCEPTED)?;
+    Ok(page)
 }
 
 // The lines over a new bank of the kind.

@@ -1,43 +1,66 @@
 // The lines after the first, from their text to what is printed of them.
-ghost use Rattle.std.specs.Prelude.{◌≡◌, length, IfOk, string_bytes};
-ghost use Rattle.script.specs.Told.{calls_in, page_from, Session};
+ghost use Rattle.std.specs.Prelude.{◌≡◌, All, length, IfOk, OnOk, string_bytes};
+ghost use Rattle.script.specs.Settled.{calls_of, settled, IsTold, AskedOf, page_of};
+ghost use Rattle.script.specs.Told.{Session};
 
 use crate::cut::read_lines;
-use crate::fault::Fault;
+use crate::line::Line;
 use crate::told::Told;
 use banks::Bank;
 use engine::{Answer, Call, EngineFault, run};
 use std::alloc::{AllocError, Global};
 
 // The calls among the lines.
-fn calls_in(heap: Global, lines: &[Result<Call, Fault>]) -> Result<Vec<Call>, AllocError>
-    ensures { IfOk result (λ v. v.items ≡ calls_in lines.now) }
+fn calls_in(heap: Global, lines: &[Line]) -> Result<Vec<Call>, AllocError>
+    ensures { IfOk result (λ v. v.items ≡ calls_of lines.now) }
 {
-    lines.iter().filter_map(|line| line.ok()).collect(heap)
+    lines.iter().filter_map(|line| line.asked()).collect(heap)
+}
+
+// Puts each answer in the place of its call.
+#[tactic(auto, using(crate::proofs::Settled::call_answered, crate::proofs::Settled::line_kept))]
+fn settle(lines: &mut [Line], answers: &[Result<Answer, EngineFault>])
+    requires { length answers.now ≡ length (calls_of lines.old) }
+    ensures told { All IsTold lines.new }
+    ensures lines { lines.new ≡ settled lines.old answers.now }
+{
+    let mut left = answers.iter();
+    for line in lines.iter_mut() {
+        if matches!(line, Line::Asks(_)) {
+            *line = Line::from(*left.next().unwrap());
+        }
+    }
+}
+
+// The bank takes the calls among the lines, and each answer stands in the place of its call.
+//
+// The lists of the calls and of the answers are let go here, before the page grows.
+fn ask<B: Bank + Drop>(heap: Global, bank: B, lines: &mut [Line]) -> Result<(), AllocError>
+    ensures told { OnOk result (All IsTold lines.new) }
+    ensures answers { OnOk result (AskedOf B.means B.does bank lines.old lines.new) }
+{
+    let calls = calls_in(heap, lines)?;
+    let answers = run(heap, bank, &calls)?;
+    settle(lines, &answers);
+    Ok(())
 }
 
 // So many lines are put on a page whole. Then it has room for a line, and doubles where it is full, whatever the pieces
 // are in which a line comes.
 const WHOLE: usize = 8;
 
-// The answers are a list of their own, as `run` gives them: a line that spells no call has none.
-//
-// What is printed of the lines, which begin at the second of the script: the answer to a call, or the fault of a line that spells none.
-fn page(
-    heap: Global,
-    lines: &[Result<Call, Fault>],
-    answers: &[Result<Answer, EngineFault>],
-) -> Result<String, AllocError>
-    requires { length answers.now ≡ length (calls_in lines.now) }
-    ensures { IfOk result (λ s. string_bytes s ≡ page_from 2 lines.now answers.now) }
+// What is printed of the lines, which begin at the second of the script: the answer to a call, or the fault of the call or of the line.
+fn page(heap: Global, lines: &[Line]) -> Result<String, AllocError>
+    requires { All IsTold lines.now }
+    ensures { IfOk result (λ s. string_bytes s ≡ page_of 2 lines.now) }
 {
     let mut out = String::new(heap);
-    let mut left = answers.iter();
-    for (index, read) in lines.iter().enumerate() {
-        // A match, since no clause of `and_then` says what its closure takes from the answers that are left.
-        let outcome = match *read {
-            Ok(_) => left.next().unwrap().map_err(Fault::Engine),
-            Err(fault) => Err(fault),
+    for (index, line) in lines.iter().enumerate() {
+        let outcome = match *line {
+            Line::Answered(answer) => Ok(answer),
+            Line::Refused(fault) => Err(fault),
+            // No line is left that asks.
+            Line::Asks(_) => unreachable!(),
         };
         let told = Told {
             line: index + 2,
@@ -60,8 +83,7 @@ pub(crate) fn session<B: Bank + Drop>(
 ) -> Result<String, AllocError>
     ensures { IfOk result (λ s. Session B.means B.does bank text.now (string_bytes s)) }
 {
-    let lines = read_lines(heap, text)?;
-    // The list of the calls is let go before the page grows.
-    let answers = run(heap, bank, &calls_in(heap, &lines)?)?;
-    page(heap, &lines, &answers)
+    let mut lines = read_lines(heap, text)?;
+    ask(heap, bank, &mut lines)?;
+    page(heap, &lines)
 }
